@@ -1,0 +1,4 @@
+pub mod Same
+pub mod FieldLaws
+pub mod MaskLaws
+pub mod Unique

@@ -1,0 +1,112 @@
+-- Laws of words merged under a mask.
+use mathlib.Core.Path.{_≡_, refl, ap, ap₂, sym, _∙_}
+use Prim.Native.Nat.{ℕ, zero, suc, _+_, _-_, _*_, _/_, _%_, _^_, _<_, _≤_, min, max}
+use native.Mathlib.Nat.{pow-suc, min-zero, max-zero, zero-max, min-eq-left, min-le-left, lt-of-le-of-lt}
+use native.Mathlib.Omega.{arith}
+use mathlib.Core.Bool.{Bool, true, false}
+use lib.Dec.{eqb}
+use lib.Bits.{bitAnd, bitOr, and-step, or-step, and-zero-r}
+use Rattle.bits.specs.Choice.{pick}
+use Rattle.bits.specs.Mask.{mergedBits}
+
+-- one bit: y's under the complement, x's under the mask
+one-bit : (m x y : ℕ) → m < 2 → x < 2 → y < 2 → max (min y (1 - m)) (min x m) ≡ pick (eqb m 1) x y
+one-bit zero x y hm hx hy = rw (min-zero x, min-eq-left {n = y} {m = 1} (omega arith)) (max-zero y)
+one-bit (suc zero) x y hm hx hy = rw (min-zero y, min-eq-left {n = x} {m = 1} (omega arith)) (zero-max x)
+one-bit (suc (suc m)) x y hm hx hy = omega arith
+
+-- a number made of its half and its last bit, taken apart
+half : (a b : ℕ) → b < 2 → (a * 2 + b) / 2 ≡ a
+half a b h = omega arith
+
+last : (a b : ℕ) → b < 2 → (a * 2 + b) % 2 ≡ b
+last a b h = omega arith
+
+and-half : (a b : ℕ) → bitAnd a b / 2 ≡ bitAnd (a / 2) (b / 2)
+and-half a b =
+    ap (λ (n : ℕ). n / 2) (and-step a b) ∙ half _ _ (lt-of-le-of-lt (min-le-left (a % 2) (b % 2)) (omega arith))
+
+and-last : (a b : ℕ) → bitAnd a b % 2 ≡ min (a % 2) (b % 2)
+and-last a b =
+    ap (λ (n : ℕ). n % 2) (and-step a b) ∙ last _ _ (lt-of-le-of-lt (min-le-left (a % 2) (b % 2)) (omega arith))
+
+-- the complement's half and last bit
+module _ (p m : ℕ) (h : m < p * 2) where
+  not-half : (p * 2 - 1 - m) / 2 ≡ p - 1 - m / 2
+  not-half = omega arith
+
+  not-last : (p * 2 - 1 - m) % 2 ≡ 1 - m % 2
+  not-last = omega arith
+
+-- `(y & !m) | (x & m)` takes each bit from x or from y, at every width n
+pub merges : (n m x y : ℕ) → m < 2 ^ n → x < 2 ^ n → y < 2 ^ n
+    → bitOr (bitAnd y (2 ^ n - 1 - m)) (bitAnd x m) ≡ mergedBits n m x y
+unfolding mergedBits
+merges zero m x y hm hx hy =
+    let ex : x ≡ 0 = omega arith in
+    let ey : y ≡ 0 = omega arith in
+    rw (ex, ey)
+merges (suc n) m x y hm hx hy =
+    let p : ℕ = 2 ^ n in
+    let e : 2 ^ suc n ≡ p * 2 = pow-suc 2 n in
+    let hm′ : m < p * 2 = omega (arith, e) in
+    let hx′ : x < p * 2 = omega (arith, e) in
+    let hy′ : y < p * 2 = omega (arith, e) in
+    or-step (bitAnd y (2 ^ suc n - 1 - m)) (bitAnd x m)
+    ∙ rw (e, and-half y, and-half x m, and-last y, and-last x m, not-half p m hm′, not-last p m hm′)
+    (ap₂ (λ (a b : ℕ). a * 2 + b)
+    (merges n (m / 2) (x / 2) (y / 2) (omega arith) (omega arith) (omega arith))
+    (one-bit (m % 2) (x % 2) (y % 2) (omega arith) (omega arith) (omega arith)))
+
+pick-lt : (m x y : ℕ) → pick (eqb (m % 2) 1) (x % 2) (y % 2) < 2
+pick-lt m x y = go (eqb (m % 2) 1)
+  where
+    go : (b : Bool) → pick b (x % 2) (y % 2) < 2
+    go true = omega arith
+    go false = omega arith
+
+-- n merged bits are below 2 ^ n
+pub merged-lt : (n m x y : ℕ) → mergedBits n m x y < 2 ^ n
+unfolding mergedBits
+merged-lt zero m x y = omega arith
+merged-lt (suc n) m x y = omega (arith, pow-suc 2 n, merged-lt n (m / 2) (x / 2) (y / 2), pick-lt m x y)
+
+-- the halves and the last bits of merged words
+merged-half : (n m x y : ℕ) → mergedBits (suc n) m x y / 2 ≡ mergedBits n (m / 2) (x / 2) (y / 2)
+unfolding mergedBits
+merged-half n m x y = half (mergedBits n (m / 2) (x / 2) (y / 2)) _ (pick-lt m x y)
+
+merged-last : (n m x y : ℕ) → mergedBits (suc n) m x y % 2 ≡ pick (eqb (m % 2) 1) (x % 2) (y % 2)
+unfolding mergedBits
+merged-last n m x y = last (mergedBits n (m / 2) (x / 2) (y / 2)) _ (pick-lt m x y)
+
+bit-under : (m x y : ℕ) → m < 2 → min (pick (eqb m 1) x y) m ≡ min x m
+bit-under zero x y h = min-zero y ∙ sym (min-zero x)
+bit-under (suc zero) x y h = refl
+bit-under (suc (suc m)) x y h = omega arith
+
+-- under the mask stand x's bits
+pub merged-under : (n m x y : ℕ) → m < 2 ^ n → bitAnd (mergedBits n m x y) m ≡ bitAnd x m
+merged-under zero m x y h =
+    let e : m ≡ 0 = omega arith in
+    rw e (and-zero-r (mergedBits zero 0 x y) ∙ sym (and-zero-r x))
+merged-under (suc n) m x y h =
+    and-step (mergedBits (suc n) m x y) m
+    ∙ ap₂ (λ (a b : ℕ). a * 2 + b)
+    (ap (λ (z : ℕ). bitAnd z (m / 2)) (merged-half n m x y)
+    ∙ merged-under n (m / 2) (x / 2) (y / 2) (omega (arith, pow-suc 2 n)))
+    (ap (λ (z : ℕ). min z (m % 2)) (merged-last n m x y) ∙ bit-under (m % 2) (x % 2) (y % 2) (omega arith))
+    ∙ sym (and-step x m)
+
+bit-again : (b : Bool) (x x′ y : ℕ) → pick b x (pick b x′ y) ≡ pick b x y
+bit-again true x x′ y = refl
+bit-again false x x′ y = refl
+
+-- of two merges under one mask the later stands
+pub merged-again : (n m x x′ y : ℕ) → mergedBits n m x (mergedBits n m x′ y) ≡ mergedBits n m x y
+unfolding mergedBits
+merged-again zero m x x′ y = refl
+merged-again (suc n) m x x′ y =
+    ap₂ (λ (a b : ℕ). a * 2 + b)
+    (ap (mergedBits n (m / 2) (x / 2)) (merged-half n m x′ y) ∙ merged-again n (m / 2) (x / 2) (x′ / 2) (y / 2))
+    (ap (pick (eqb (m % 2) 1) (x % 2)) (merged-last n m x′ y) ∙ bit-again (eqb (m % 2) 1) (x % 2) (x′ % 2) (y % 2))

@@ -1,0 +1,17 @@
+-- `bits::sign_extend` is the signed number, by whether bit 31 is set.
+use borrow.Author.Needs.{needs}
+use borrow.Author.Tests.{lt-ltb, le-ltb}
+use Rattle.bits.proofs.extension.sign_extend.Statement.{statement}
+use Rattle.bits.proofs.extension.sign_extend.Tie as tie
+
+returns : tie.Need-returns
+returns c = simp (lt-ltb _ _ (c .if1 .taken))
+
+add-result : tie.Need-add-result
+add-result c = search needs
+
+returns-2 : tie.Need-returns-2
+returns-2 c = simp (le-ltb _ _ (c .if1 .left))
+
+pub sign-extend-spec : {M : Type 1} → statement M
+sign-extend-spec = tie.close (tie.spec returns add-result returns-2)

@@ -1,0 +1,5 @@
+pub mod Choice
+pub mod Told
+pub mod Field
+pub mod Mask
+pub mod Extension
