@@ -2,3 +2,4 @@ pub mod Same
 pub mod FieldLaws
 pub mod MaskLaws
 pub mod Unique
+pub mod Tables

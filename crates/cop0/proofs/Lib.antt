@@ -1,0 +1,5 @@
+pub mod Numbers
+pub mod Wrapping
+pub mod RandomLaws
+pub mod Timer
+pub mod FileLaws

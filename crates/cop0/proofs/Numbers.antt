@@ -1,0 +1,22 @@
+-- The lists of register numbers, as tests.
+use mathlib.Core.Path.{_≡_, refl}
+use mathlib.Core.Bool.{Bool}
+use Prim.Native.Nat.{ℕ, _<_}
+use lib.Dec.{eqb, leb}
+use Rattle.bits.specs.Choice.{both, either}
+use Rattle.bits.specs.Field.{fieldOf}
+use Rattle.bits.proofs.Tables.{agree}
+use Rattle.cop0.specs.Registers.{among, wide, unused}
+
+-- the bits of `WIDE` are the wide registers
+pub wide-bits : (k : ℕ) → k < 32 → eqb (fieldOf 0x4010_451C k k) 1 ≡ wide k
+unfolding wide among
+wide-bits = agree 32 (λ k. eqb (fieldOf 0x4010_451C k k) 1) wide refl
+
+-- 7, 31, and 21 to 25
+abbrev pub listed : ℕ → Bool
+listed k = either (eqb k 7) (either (eqb k 31) (both (leb 21 k) (leb k 25)))
+
+pub unused-listed : (k : ℕ) → k < 32 → listed k ≡ unused k
+unfolding unused among
+unused-listed = agree 32 listed unused refl

@@ -1,0 +1,10 @@
+pub mod Registers
+pub mod Record
+pub mod Interrupt
+pub mod Clock
+pub mod Random
+pub mod File
+pub mod Access
+pub mod Advance
+pub mod Machine
+pub mod Cut

@@ -1,0 +1,15 @@
+// COP0, the VR4300's system control coprocessor: its register file.
+mod access;
+mod advance;
+mod clock;
+mod interrupt;
+mod random;
+mod registers;
+
+pub use access::Cop0Op;
+pub use access::FromRs;
+pub use advance::AdvanceAnswer;
+pub use advance::Advanced;
+pub use clock::Polled;
+pub use registers::Cop0;
+pub use registers::is_wide;
