@@ -3,3 +3,7 @@ pub mod Wrapping
 pub mod RandomLaws
 pub mod Timer
 pub mod FileLaws
+pub mod Edges
+pub mod Machine
+pub mod Order
+pub mod Cut
