@@ -7,3 +7,6 @@ pub mod Edges
 pub mod Machine
 pub mod Order
 pub mod Cut
+pub mod Answers
+pub mod Unique
+pub mod Keeping

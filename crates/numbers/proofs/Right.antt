@@ -1,0 +1,19 @@
+-- Every row of the table holds, by computation.
+use mathlib.Core.Path.{_≡_, refl}
+use mathlib.Core.Bool.{true}
+use Rattle.bits.specs.Field.{withFieldOf}
+use Rattle.bits.specs.Mask.{mergedBits}
+use Rattle.cop0.specs.Registers.{among, wide, writeMask}
+use Rattle.cop0.specs.Record.{fresh}
+use Rattle.cop0.specs.Interrupt.{setIpOf}
+use Rattle.cop0.specs.Clock.{edgeOf, asked}
+use Rattle.cop0.specs.Random.{randomStep, randomSteps, tickRandomByOf}
+use Rattle.cop0.specs.File.{besides, writeAt}
+use Rattle.cop0.specs.Access.{moved32, dmtc0Of}
+use Rattle.cop0.specs.Advance.{moved, advanceTold, advanceOf}
+use Rattle.numbers.specs.Table.{all}
+use Rattle.numbers.specs.RegisterFile.{registerFile}
+
+pub right : all registerFile ≡ true
+unfolding withFieldOf mergedBits among wide writeMask fresh setIpOf edgeOf asked randomStep randomSteps tickRandomByOf besides writeAt moved32 dmtc0Of moved advanceTold advanceOf
+right = refl

@@ -1,0 +1,33 @@
+-- Rows of a table: what a definition computes, and what the scope (document 01) expects.
+use mathlib.Core.Bool.{Bool, true, false}
+use mathlib.Core.List.{List, [], _∷_}
+use Prim.Native.Nat.{ℕ}
+use lib.Dec.{eqb}
+use Rattle.bits.specs.Choice.{both}
+use Rattle.bits.specs.Told.{Told}
+
+pub record Row : Type 0 where
+  pub computed : List ℕ
+  pub expected : List ℕ
+
+abbrev pub row : List ℕ → List ℕ → Row
+row c e = record { computed = c; expected = e }
+
+-- one number
+abbrev pub number : ℕ → List ℕ
+number n = n ∷ []
+
+-- an answer: its number, and then its values
+abbrev pub answer : Told → List ℕ
+answer t = t .number ∷ t .values
+
+abbrev pub equal : List ℕ → List ℕ → Bool
+equal [] [] = true
+equal [] (y ∷ ys) = false
+equal (x ∷ xs) [] = false
+equal (x ∷ xs) (y ∷ ys) = both (eqb x y) (equal xs ys)
+
+-- every row holds
+abbrev pub all : List Row → Bool
+all [] = true
+all (r ∷ rs) = both (equal (r .computed) (r .expected)) (all rs)
