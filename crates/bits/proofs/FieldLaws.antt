@@ -1,27 +1,12 @@
 -- Laws of fields, over the width and the position.
-use mathlib.Core.Path.{_≡_, refl, ap, ap₂, sym, _∙_}
+use mathlib.Core.Path.{_≡_, ap, ap₂, sym, _∙_}
 use Prim.Native.Nat.{ℕ, _+_, _-_, _*_, _/_, _%_, _^_, _<_, _≤_}
-use native.Mathlib.Nat.{
-  one-mul,
-  add-assoc,
-  div-one,
-  mod-lt,
-  mod-one,
-  zero-mod,
-  mod-eq-of-lt,
-  div-eq-of-lt,
-  div-le-self,
-  lt-of-lt-of-le,
-  lt-of-le-of-lt,
-  pow-le-pow-right,
-  mul-le-mul-right,
-  mod-mod,
-}
+use native.Mathlib.Nat.{one-mul, add-assoc, div-one, mod-lt, mod-one, zero-mod, mod-eq-of-lt, div-eq-of-lt, div-le-self, lt-of-lt-of-le, lt-of-le-of-lt, pow-le-pow-right}
 use native.Mathlib.Omega.{arith}
 use lib.Arith.{digits-lt}
 use lib.Pow.{pow-pos, pow-add, split, high, low, mod-pow-add, shl-exact, shr-lt, shr-shr, field, mod-mod-pow}
 use borrow.Author.Tests.{le-leb}
-use Rattle.bits.specs.Field.{fieldOf, inWord, withFieldOf}
+use Rattle.bits.specs.Field.{fieldOf, withFieldOf}
 
 pow-le : (i j : ℕ) → i ≤ j → 2 ^ i ≤ 2 ^ j
 pow-le i j h = pow-le-pow-right (omega arith) h

@@ -5,12 +5,11 @@ use mathlib.Core.List.{List, [], _∷_}
 use Prim.Native.Nat.{ℕ, _+_, _^_, _<_}
 use native.Mathlib.Nat.{add-zero}
 use native.Mathlib.Omega.{arith}
-use Rattle.bits.specs.Told.{Told}
 use Rattle.cop0.specs.declared.registers.Cop0.{Cop0}
-use Rattle.cop0.specs.Random.{randomOf, tickRandomOf}
+use Rattle.cop0.specs.Random.{tickRandomOf}
 use Rattle.cop0.specs.Interrupt.{bit}
 use Rattle.cop0.specs.Advance.{advanceTold, advanceOf}
-use Rattle.cop0.specs.Machine.{oneTick, becomes, ticks, edges, steps, sixBit}
+use Rattle.cop0.specs.Machine.{oneTick, becomes, ticks, edges, steps, sixBit, Kept}
 use Rattle.cop0.specs.Cut.{
   Piece,
   allCounts,
@@ -26,7 +25,7 @@ use Rattle.cop0.specs.Cut.{
   play,
   playEdges,
 }
-use Rattle.cop0.proofs.Machine.{Kept, six-kept, six-six, edges-six, advance-is, answer-is, advance-six, answer-six}
+use Rattle.cop0.proofs.Machine.{six-kept, six-six, edges-six, advance-is, answer-is, advance-six, answer-six}
 use Rattle.cop0.proofs.Order.{
   ticks-step,
   ticks-steps,

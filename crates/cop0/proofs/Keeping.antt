@@ -16,7 +16,7 @@ use Rattle.cop0.specs.Random.{tickRandomByOf}
 use Rattle.cop0.specs.File.{besides, writeAt, setHardwareOf}
 use Rattle.cop0.specs.Access.{dmtc0Of}
 use Rattle.cop0.specs.Advance.{moved, raisedIf, advanceOf}
-use Rattle.cop0.proofs.Machine.{Kept}
+use Rattle.cop0.specs.Machine.{Kept}
 
 pub fresh-kept : Kept fresh
 unfolding fresh

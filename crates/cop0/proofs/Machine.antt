@@ -13,20 +13,14 @@ use Rattle.bits.specs.Told.{answered}
 use Rattle.bits.specs.Field.{fieldOf, withFieldOf}
 use Rattle.cop0.specs.declared.registers.Cop0.{Cop0}
 use Rattle.cop0.specs.Registers.{Random, Wired, Compare, Cause}
-use Rattle.cop0.specs.Record.{reg, put, withReg, withNow}
+use Rattle.cop0.specs.Record.{put, withReg}
 use Rattle.cop0.specs.Interrupt.{bit, setIpOf}
 use Rattle.cop0.specs.Clock.{less, countAt, countOf, compareOf, edgeOf, asked}
 use Rattle.cop0.specs.Random.{randomOf, wiredOf, randomStep, randomSteps, tickRandomOf, tickRandomByOf}
 use Rattle.cop0.specs.Advance.{moved, raisedIf, advanceTold, advanceOf}
-use Rattle.cop0.specs.Machine.{ticked, becomes, oneTick, ticks, edges, steps, sixBit}
+use Rattle.cop0.specs.Machine.{ticked, becomes, oneTick, ticks, edges, steps, sixBit, Kept}
 use Rattle.cop0.proofs.RandomLaws.{step-lt}
 use Rattle.cop0.proofs.Edges.{edgeIn, edge-start, hit-after, hit-before, miss, count-moves}
-
--- a record that the type holds, whose last-asked Count is its Count
-pub record Kept (c : Cop0) : Type 0 where
-  pub clock : c .now < 2 ^ 64
-  pub file : length (c .regs) ≡ 32
-  pub mark : c .«last_count» ≡ countOf c
 
 -- the registers with the timer's pending bit raised or not
 pub raisedIn : Bool → List ℕ → List ℕ

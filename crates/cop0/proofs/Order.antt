@@ -1,20 +1,18 @@
 -- The machine's ticks and steps may change places, and add up.
 use mathlib.Core.Path.{_≡_, refl, ap, _∙_, sym, subst}
 use mathlib.Core.Bool.{Bool}
-use Prim.Native.Nat.{ℕ, zero, suc, _+_, _^_, _<_}
+use Prim.Native.Nat.{ℕ, zero, suc, _+_}
 use native.Mathlib.Nat.{zero-add, suc-add, add-assoc}
 use native.Mathlib.Omega.{arith}
-use lib.ListN.{length, length-set}
+use lib.ListN.{length-set}
 use lib.Seq.{getD-set-other}
 use Rattle.cop0.specs.declared.registers.Cop0.{Cop0}
 use Rattle.cop0.specs.Registers.{Random, Compare}
-use Rattle.cop0.specs.Record.{withReg}
 use Rattle.cop0.specs.Interrupt.{bit}
 use Rattle.cop0.specs.Clock.{asked}
 use Rattle.cop0.specs.Random.{randomOf, wiredOf, randomStep, tickRandomOf}
-use Rattle.cop0.specs.Machine.{becomes, oneTick, ticks, edges, steps, sixBit}
+use Rattle.cop0.specs.Machine.{becomes, oneTick, ticks, edges, steps, sixBit, Kept}
 use Rattle.cop0.proofs.Machine.{
-  Kept,
   jumped,
   tick-is,
   jump-kept,

@@ -1,5 +1,5 @@
 -- The access instructions MFC0, DMFC0, MTC0 and DMTC0, and the rs field that names them.
-use mathlib.Core.List.{List, [], _∷_}
+use mathlib.Core.List.{[], _∷_}
 use Prim.Native.Nat.{ℕ, _%_}
 use Rattle.bits.specs.Choice.{pick}
 use Rattle.bits.specs.Told.{Told, answered, refused}

@@ -1,6 +1,6 @@
 -- The clock advance: the clock moves forward, Random steps, the timer is asked, and an edge sets pending bit 7.
 use mathlib.Core.Bool.{Bool, true, false}
-use mathlib.Core.List.{List, [], _∷_}
+use mathlib.Core.List.{[], _∷_}
 use Prim.Native.Nat.{ℕ, _+_, _%_, _^_}
 use lib.Dec.{ltb}
 use Rattle.bits.specs.Choice.{pick}

@@ -2,7 +2,7 @@
 use Prim.Native.Nat.{ℕ, _*_, _%_, _^_}
 use lib.Dec.{eqb}
 use lib.Bits.{bitOr}
-use mathlib.Core.Bool.{Bool, true, false}
+use mathlib.Core.Bool.{false}
 use Rattle.bits.specs.Choice.{pick}
 use Rattle.bits.specs.Mask.{under, merged}
 use Rattle.bits.specs.Extension.{low32Of}

@@ -1,8 +1,10 @@
 -- A machine that moves Count one tick and Random one step at a time, and raises the timer's pending bit on the tick where
 -- Count becomes Compare.
 use mathlib.Core.Bool.{Bool}
-use Prim.Native.Nat.{ℕ, zero, suc, _+_, _%_, _^_}
+use mathlib.Core.Path.{_≡_}
+use Prim.Native.Nat.{ℕ, zero, suc, _+_, _%_, _^_, _<_}
 use lib.Dec.{eqb}
+use lib.ListN.{length}
 use Rattle.cop0.specs.declared.registers.Cop0.{Cop0}
 use Rattle.cop0.specs.Registers.{Random}
 use Rattle.cop0.specs.Record.{withNow, withReg}
@@ -38,3 +40,9 @@ steps (suc n) c = steps n (tickRandomOf c)
 -- Random has six bits. Every operation stores them alone; a record that a caller builds may hold more there.
 unfoldable pub sixBit : Cop0 → Cop0
 sixBit c = withReg c Random (randomOf c)
+
+-- a record that the type holds, whose last-asked Count is its Count: what the clock's theorem asks
+pub record Kept (c : Cop0) : Type 0 where
+  pub clock : c .now < 2 ^ 64
+  pub file : length (c .regs) ≡ 32
+  pub mark : c .«last_count» ≡ countOf c

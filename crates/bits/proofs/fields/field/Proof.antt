@@ -1,7 +1,6 @@
 -- `bits::field` is the field, also where hi..lo reaches past the word.
-use mathlib.Core.Path.{_≡_, sym}
-use Prim.Native.Nat.{ℕ, _+_, _-_}
-use native.Mathlib.Omega.{arith}
+use mathlib.Core.Path.{sym}
+use Prim.Native.Nat.{_+_, _-_}
 use lib.Pow.{pow-pos}
 use borrow.Author.Needs.{needs}
 use Rattle.bits.proofs.FieldLaws.{unit, field-none, field-past, field-all, field-part}

@@ -1,5 +1,5 @@
 -- `cop0::is_wide` reads the register's bit of `WIDE`.
-use mathlib.Core.Path.{_≡_, ap, _∙_}
+use mathlib.Core.Path.{ap, _∙_}
 use Prim.Native.Nat.{ℕ, _%_}
 use lib.Dec.{eqb}
 use borrow.Author.Needs.{needs}

@@ -1,5 +1,5 @@
 -- `Cop0::count` is the epoch value plus the elapsed counts.
-use mathlib.Core.Path.{_≡_, ap, _∙_}
+use mathlib.Core.Path.{ap, _∙_}
 use Prim.Native.Nat.{ℕ, _+_, _%_, _^_}
 use native.Mathlib.Nat.{add-mod-mod}
 use borrow.Author.Needs.{needs}

@@ -1,6 +1,6 @@
 -- `Cop0::is_unused` tests for the numbers listed.
 use mathlib.Core.Path.{_∙_}
-use Prim.Native.Nat.{ℕ, _%_}
+use Prim.Native.Nat.{_%_}
 use borrow.Author.Needs.{needs}
 use borrow.Author.Tests.{le-leb, lt-leb, eq-eqb, ne-eqb}
 use Rattle.cop0.proofs.Numbers.{unused-listed}

@@ -1,7 +1,6 @@
 -- `Cop0::mtc0` extends the low half by the register's width.
-use mathlib.Core.Path.{_≡_, ap, _∙_}
 use borrow.Author.Needs.{needs}
-use Rattle.cop0.specs.Access.{moved32, dmtc0Of}
+use Rattle.cop0.specs.Access.{moved32}
 use Rattle.cop0.proofs.registers.Cop0.mtc0.Statement.{statement}
 use Rattle.cop0.proofs.registers.Cop0.mtc0.Tie as tie
 

@@ -1,9 +1,8 @@
 -- `Cop0::timer_edge` compares the two distances and moves the mark.
-use mathlib.Core.Path.{_≡_, sym, ap, _∙_}
-use Prim.Native.Nat.{ℕ, _+_, _-_, _%_, _^_}
+use mathlib.Core.Path.{sym, _∙_}
+use Prim.Native.Nat.{_-_}
 use borrow.Author.Tests.{le-leb, lt-leb}
 use borrow.Author.Needs.{needs}
-use Rattle.cop0.specs.Clock.{less}
 use Rattle.cop0.proofs.Wrapping.{difference}
 use Rattle.cop0.proofs.Timer.{polls}
 use Rattle.cop0.proofs.registers.Cop0.timer_edge.Statement.{statement}

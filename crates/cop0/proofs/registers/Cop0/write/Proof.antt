@@ -1,8 +1,6 @@
 -- `Cop0::write` replaces the bits under the mask, and goes by the register number.
-use mathlib.Core.Path.{_≡_, ap, _∙_}
-use mathlib.Core.Bool.{false}
+use mathlib.Core.Path.{ap, _∙_}
 use borrow.Author.Needs.{needs}
-use Rattle.cop0.specs.declared.registers.Cop0.{Cop0}
 use Rattle.cop0.specs.Clock.{asked}
 use Rattle.cop0.proofs.FileLaws.{to-count, to-compare, to-wired, to-other}
 use Rattle.cop0.proofs.registers.Cop0.write.Statement.{statement}
