@@ -25,56 +25,82 @@ pub struct Cop0 {
     pub write_latch: u64,
 }
 
+// The register numbers are constants by name (User's Manual, table 1-2): an encoding holds any of 0 to 31, so an enum would
+// only add a conversion that can fail.
 impl Cop0 {
-    // The register numbers, by name (User's Manual, table 1-2).
+    // The TLB entry that TLBR and TLBWI use.
     pub const INDEX: u8 = 0;
 
+    // The TLB's replacement counter.
     pub const RANDOM: u8 = 1;
 
+    // The even page of a TLB entry.
     pub const ENTRY_LO0: u8 = 2;
 
+    // The odd page of a TLB entry.
     pub const ENTRY_LO1: u8 = 3;
 
+    // Page-table base and faulting VPN2, for a 32-bit refill.
     pub const CONTEXT: u8 = 4;
 
+    // The TLB's page size.
     pub const PAGE_MASK: u8 = 5;
 
+    // How many TLB entries are not replaced.
     pub const WIRED: u8 = 6;
 
+    // The faulting address.
     pub const BAD_VADDR: u8 = 8;
 
+    // The free-running counter, at half the pipeline's clock.
     pub const COUNT: u8 = 9;
 
+    // VPN2 and ASID of a TLB entry.
     pub const ENTRY_HI: u8 = 10;
 
+    // What Count is compared with for the timer's interrupt.
     pub const COMPARE: u8 = 11;
 
+    // Mode and interrupt masks.
     pub const STATUS: u8 = 12;
 
+    // The last exception's cause, and the pending interrupts.
     pub const CAUSE: u8 = 13;
 
+    // Where an exception returns to.
     pub const EPC: u8 = 14;
 
+    // The processor's revision.
     pub const PRID: u8 = 15;
 
+    // Caches, byte order and clock ratio.
     pub const CONFIG: u8 = 16;
 
+    // The physical address of the last LL.
     pub const LL_ADDR: u8 = 17;
 
+    // The watched address, low part.
     pub const WATCH_LO: u8 = 18;
 
+    // The watched address, high part.
     pub const WATCH_HI: u8 = 19;
 
+    // Page-table base and faulting VPN2, for a 64-bit refill.
     pub const XCONTEXT: u8 = 20;
 
+    // Parity error, which the VR4300 does not use.
     pub const PERR: u8 = 26;
 
+    // Cache error, which the VR4300 does not use.
     pub const CACHE_ERR: u8 = 27;
 
+    // A primary cache tag, low part.
     pub const TAG_LO: u8 = 28;
 
+    // A primary cache tag, high part.
     pub const TAG_HI: u8 = 29;
 
+    // Where an error exception returns to.
     pub const ERROR_EPC: u8 = 30;
 
     // The eight registers of 64 bits, a bit for each; the other 24 have 32. No rule makes this list: they are those that

@@ -1,0 +1,191 @@
+//! The run of a comparison: which traces are made, and how a program is given them.
+
+use std::io::Write;
+use std::path::{Path, PathBuf};
+use std::process::{Command, Output, Stdio};
+use std::{fs, io, process, thread};
+
+use oracle::play::play;
+
+use crate::judge::{judge, sections, Difference, Tally};
+use crate::options::{repository, Options};
+use crate::rng::Rng;
+use crate::{malformed, mixed, sweeps};
+
+/// Traces that the program is given at a time.
+const BATCH: usize = 32;
+
+/// Traces after which the kinds of trace come again.
+const ROUND: u64 = 14;
+
+/// Where a trace that differs is kept, from the repository's root.
+const KEPT: &str = "target/compare";
+
+struct Trace {
+    name: String,
+    text: Vec<u8>,
+}
+
+impl Trace {
+    /// The trace of a number. In a `ROUND` one is a sweep and one has a plain fault, until all of
+    /// these are done.
+    fn new(seed: u64, number: u64) -> Self {
+        let mut rng = Rng::new(seed, number);
+        let operations = 400 + rng.index(200);
+        let round = number / ROUND;
+        let once = match number % ROUND {
+            0 => sweeps::sweep(round),
+            1 => malformed::plain_fault(round),
+            _ => None,
+        };
+        let text = once.unwrap_or_else(|| match number % ROUND {
+            1 | 2 => malformed::malformed(rng, round),
+            3 | 4 => mixed::cut_advances(rng, operations),
+            _ => mixed::session(rng, operations),
+        });
+        Self { name: format!("{seed:x}-{number}.trace"), text }
+    }
+}
+
+pub struct Comparison {
+    options: Options,
+    tally: Tally,
+    traces: u64,
+    /// Traces that were given on standard input as well.
+    inputs: usize,
+    /// Where the traces of a batch stand while the program plays them.
+    room: PathBuf,
+}
+
+impl Comparison {
+    pub fn new(options: Options) -> Self {
+        let room = repository().join(KEPT).join(format!("batch-{}", process::id()));
+        Self { options, tally: Tally::default(), traces: 0, inputs: 0, room }
+    }
+
+    /// Compares until enough operations are, or there is a difference to tell.
+    pub fn run(&mut self) -> io::Result<Option<String>> {
+        let program = &self.options.replay;
+        let lost = |error| io::Error::other(format!("{}: {error}", program.display()));
+        fs::metadata(program).map_err(lost)?;
+        fs::create_dir_all(&self.room)?;
+        let told = self.run_batches();
+        fs::remove_dir_all(&self.room)?;
+        told
+    }
+
+    fn run_batches(&mut self) -> io::Result<Option<String>> {
+        while self.tally.total() < self.options.operations {
+            let told = self.run_batch()?;
+            if told.is_some() {
+                return Ok(told);
+            }
+        }
+        Ok(None)
+    }
+
+    pub fn report(&self) {
+        println!("seed {:x}", self.options.seed);
+        println!("{} traces, {} operations", self.traces, self.tally.total());
+        println!("{} of the traces on standard input as well", self.inputs);
+        for (name, number) in self.tally.rows() {
+            println!("  {name:<30}{number:>9}");
+        }
+    }
+
+    fn run_batch(&mut self) -> io::Result<Option<String>> {
+        let batch = self.next_batch();
+        let told = self.compare_files(&batch)?;
+        if told.is_some() {
+            return Ok(told);
+        }
+        let chosen = &batch[self.inputs % batch.len()];
+        self.inputs += 1;
+        compare_input(&self.options.replay, chosen)
+    }
+
+    fn compare_files(&mut self, batch: &[Trace]) -> io::Result<Option<String>> {
+        for trace in batch {
+            fs::write(self.room.join(&trace.name), &trace.text)?;
+        }
+        let names: Vec<String> = batch.iter().map(|trace| trace.name.clone()).collect();
+        let mut command = Command::new(&self.options.replay);
+        let output = command.args(&names).current_dir(&self.room).output()?;
+        for (trace, wrote) in batch.iter().zip(sections(&output.stdout, &names)) {
+            if let Some(difference) = judge(&trace.text, wrote, &mut self.tally) {
+                keep(trace, wrote)?;
+                return Ok(Some(tell(trace, &difference) + &ending(&output)));
+            }
+            self.traces += 1;
+            fs::remove_file(self.room.join(&trace.name))?;
+        }
+        Ok(told_ending(&output))
+    }
+
+    /// The next traces, no more of them than are needed. A line counts for an operation here.
+    fn next_batch(&self) -> Vec<Trace> {
+        let mut left = self.options.operations.saturating_sub(self.tally.total());
+        let mut batch = Vec::new();
+        while batch.len() < BATCH && left > 0 {
+            let trace = Trace::new(self.options.seed, self.traces + batch.len() as u64);
+            let lines = trace.text.iter().filter(|byte| **byte == b'\n').count();
+            left = left.saturating_sub(lines as u64);
+            batch.push(trace);
+        }
+        batch
+    }
+}
+
+/// Compares a trace that was equal as a file, now given through a pipe, which may hand it over in
+/// any pieces.
+fn compare_input(program: &Path, trace: &Trace) -> io::Result<Option<String>> {
+    let output = play_input(program, &trace.text)?;
+    let Some(difference) = judge(&trace.text, &output.stdout, &mut Tally::default()) else {
+        return Ok(told_ending(&output));
+    };
+    keep(trace, &output.stdout)?;
+    let told = tell(trace, &difference) + "\n  on standard input; as a file it was equal";
+    Ok(Some(told + &ending(&output)))
+}
+
+fn play_input(program: &Path, text: &[u8]) -> io::Result<Output> {
+    let mut command = Command::new(program);
+    let command = command.stdin(Stdio::piped()).stdout(Stdio::piped()).stderr(Stdio::piped());
+    let mut child = command.spawn()?;
+    let mut input = child.stdin.take().expect("the input is piped");
+    thread::scope(|scope| {
+        // A program need not read all of a trace that is too long.
+        scope.spawn(move || input.write_all(text).ok());
+        child.wait_with_output()
+    })
+}
+
+/// Keeps a trace, with what the original answers and what the program wrote.
+fn keep(trace: &Trace, wrote: &[u8]) -> io::Result<()> {
+    let path = repository().join(KEPT).join(&trace.name);
+    let answers: String = play(&trace.text).map(|answer| answer.text + "\n").collect();
+    fs::write(&path, &trace.text)?;
+    fs::write(path.with_extension("original"), answers)?;
+    fs::write(path.with_extension("replay"), wrote)
+}
+
+fn tell(trace: &Trace, difference: &Difference) -> String {
+    let Difference { line, asked, original, other } = difference;
+    let name = &trace.name;
+    format!(
+        "difference in {KEPT}/{name}, line {line}: {asked}\n  original: {original}\n  replay:   {other}"
+    )
+}
+
+fn told_ending(output: &Output) -> Option<String> {
+    (!output.status.success()).then(|| "equal answers".to_string() + &ending(output))
+}
+
+/// How the program ended, where that was not well.
+fn ending(output: &Output) -> String {
+    if output.status.success() {
+        return String::new();
+    }
+    let said = String::from_utf8_lossy(&output.stderr);
+    format!("\nthe program ended with {}\n{said}", output.status).trim_end().to_string()
+}

@@ -1,0 +1,36 @@
+//! Plays random traces on the original and on `replay`, and reports the first difference.
+
+mod aim;
+mod comparison;
+mod draft;
+mod judge;
+mod malformed;
+mod mixed;
+mod options;
+mod rng;
+mod sweeps;
+
+use std::env;
+use std::process::ExitCode;
+
+use comparison::Comparison;
+use options::{Options, USAGE};
+
+fn main() -> ExitCode {
+    let Some(options) = Options::read(env::args_os().skip(1)) else {
+        eprintln!("{USAGE}");
+        return ExitCode::from(2);
+    };
+    let mut comparison = Comparison::new(options);
+    match comparison.run() {
+        Ok(difference) => {
+            comparison.report();
+            println!("{}", difference.as_deref().unwrap_or("no difference"));
+            ExitCode::from(u8::from(difference.is_some()))
+        }
+        Err(error) => {
+            eprintln!("compare: {error}");
+            ExitCode::from(2)
+        }
+    }
+}

@@ -1,0 +1,59 @@
+//! Private fields of the original's records, read from their derived `Debug` text.
+//!
+//! The files are compiled unchanged, so their fields can't be opened up; `{:?}` shows them all.
+
+use std::fmt::Debug;
+
+/// A record's text: `Name { field: 1, other: [2, 3] }`.
+pub struct Fields(String);
+
+impl Fields {
+    pub fn of(record: &impl Debug) -> Self {
+        Self(format!("{record:?}"))
+    }
+
+    /// A field that holds one number.
+    pub fn number(&self, name: &str) -> u64 {
+        decimal(self.after(name).split([',', ' ']).next().unwrap())
+    }
+
+    /// A field that holds an array of numbers.
+    pub fn numbers(&self, name: &str) -> Vec<u64> {
+        let list = self.after(name).strip_prefix('[').unwrap();
+        let list = list.split(']').next().unwrap();
+        list.split(", ").map(decimal).collect()
+    }
+
+    /// The text from a field's value on. The space before keeps `now` apart from `count_now`.
+    fn after(&self, name: &str) -> &str {
+        let label = format!(" {name}: ");
+        let at = self.0.find(&label);
+        let at = at.unwrap_or_else(|| panic!("no field {name} in {}", self.0));
+        &self.0[at + label.len()..]
+    }
+}
+
+fn decimal(text: &str) -> u64 {
+    text.parse().unwrap_or_else(|_| panic!("no number: {text:?}"))
+}
+
+#[cfg(test)]
+mod tests {
+    use super::*;
+
+    #[derive(Debug)]
+    #[allow(dead_code)]
+    struct Record {
+        list: [u64; 3],
+        count_now: u64,
+        now: u8,
+    }
+
+    #[test]
+    fn fields_by_name() {
+        let fields = Fields::of(&Record { list: [1, u64::MAX, 3], count_now: 4, now: 5 });
+        assert_eq!(fields.numbers("list"), [1, u64::MAX, 3]);
+        assert_eq!(fields.number("count_now"), 4);
+        assert_eq!(fields.number("now"), 5);
+    }
+}

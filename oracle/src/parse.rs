@@ -1,0 +1,176 @@
+//! The trace format: lines, words and numbers, and what can be wrong with them.
+//!
+//! All of it works on bytes: a trace may hold any, and outside a comment one that is no ASCII is a
+//! character like the rest.
+
+use crate::operations::{self, Operation};
+
+/// A whole trace is at most this many bytes.
+pub const LIMIT: usize = 1_048_576;
+
+/// An operand holds at most this many digits, leading zeros among them.
+const DIGITS: usize = 16;
+
+/// What ends a run, in the order in which a line is checked.
+#[derive(Clone, Copy, Debug, Eq, PartialEq)]
+pub enum Fault {
+    UnknownOperation,
+    WrongNumberOfOperands,
+    BadNumber,
+    OutOfRange,
+}
+
+impl Fault {
+    pub const ALL: [Self; 4] =
+        [Self::UnknownOperation, Self::WrongNumberOfOperands, Self::BadNumber, Self::OutOfRange];
+
+    /// The words that follow `line N: `.
+    pub fn words(self) -> &'static str {
+        match self {
+            Self::UnknownOperation => "unknown operation",
+            Self::WrongNumberOfOperands => "wrong number of operands",
+            Self::BadNumber => "bad number",
+            Self::OutOfRange => "out of range",
+        }
+    }
+}
+
+/// What an operand may hold.
+#[derive(Clone, Copy, Debug, Eq, PartialEq)]
+pub enum Operand {
+    /// 0 or 1.
+    Flag,
+    /// 8 bits.
+    Byte,
+    /// 64 bits.
+    Long,
+}
+
+impl Operand {
+    pub fn greatest(self) -> u64 {
+        match self {
+            Self::Flag => 1,
+            Self::Byte => u64::from(u8::MAX),
+            Self::Long => u64::MAX,
+        }
+    }
+}
+
+/// An operation with operands that fit it.
+pub struct Call {
+    pub operation: &'static Operation,
+    pub operands: Vec<u64>,
+}
+
+/// The lines of a trace, without their ends.
+pub struct Lines<'a> {
+    rest: &'a [u8],
+}
+
+/// A last line without an end counts; nothing after the last end is no line.
+pub fn lines(trace: &[u8]) -> Lines<'_> {
+    Lines { rest: trace }
+}
+
+impl<'a> Iterator for Lines<'a> {
+    type Item = &'a [u8];
+
+    fn next(&mut self) -> Option<&'a [u8]> {
+        let line = self.rest.split_inclusive(|byte| *byte == b'\n').next()?;
+        self.rest = &self.rest[line.len()..];
+        // A `\r` that no `\n` follows stays: it is a character like the rest.
+        let Some(line) = line.strip_suffix(b"\n") else {
+            return Some(line);
+        };
+        Some(line.strip_suffix(b"\r").unwrap_or(line))
+    }
+}
+
+/// The operation that a line asks for, or none where the line is passed over.
+pub fn parse(line: &[u8]) -> Result<Option<Call>, Fault> {
+    let mut words = words(line);
+    let Some(name) = words.next().filter(|word| word[0] != b'#') else {
+        return Ok(None);
+    };
+    let operation = operations::find(name).ok_or(Fault::UnknownOperation)?;
+    let words: Vec<&[u8]> = words.collect();
+    if words.len() != operation.operands.len() {
+        return Err(Fault::WrongNumberOfOperands);
+    }
+    // Each check goes over the whole line before the next one starts.
+    let operands: Option<Vec<u64>> = words.into_iter().map(number).collect();
+    let operands = operands.ok_or(Fault::BadNumber)?;
+    let mut pairs = operands.iter().zip(operation.operands);
+    if !pairs.all(|(value, operand)| *value <= operand.greatest()) {
+        return Err(Fault::OutOfRange);
+    }
+    Ok(Some(Call { operation, operands }))
+}
+
+/// What stands between spaces and tabs.
+fn words(line: &[u8]) -> impl Iterator<Item = &[u8]> {
+    line.split(|byte| matches!(byte, b' ' | b'\t')).filter(|word| !word.is_empty())
+}
+
+fn number(word: &[u8]) -> Option<u64> {
+    if word.len() > DIGITS {
+        return None;
+    }
+    word.iter().try_fold(0, |value, byte| {
+        let digit = char::from(*byte).to_digit(16)?;
+        Some(value << 4 | u64::from(digit))
+    })
+}
+
+#[cfg(test)]
+mod tests {
+    use super::*;
+
+    fn fault(line: &[u8]) -> Option<Fault> {
+        parse(line).err()
+    }
+
+    fn operands(line: &[u8]) -> Vec<u64> {
+        parse(line).ok().flatten().unwrap().operands
+    }
+
+    #[test]
+    fn line_ends() {
+        let all = |trace| lines(trace).collect::<Vec<&[u8]>>();
+        assert_eq!(all(b""), Vec::<&[u8]>::new());
+        assert_eq!(all(b"\n"), [b""]);
+        assert_eq!(all(b"a\r\n\r\nb"), [b"a" as &[u8], b"", b"b"]);
+        assert_eq!(all(b"a\r\r\nb\r"), [b"a\r", b"b\r"]);
+    }
+
+    #[test]
+    fn passed_over() {
+        for line in [b"" as &[u8], b" \t ", b"#", b"\t # mfc0 zz", b"#\xff\0\r", b"##"] {
+            assert!(matches!(parse(line), Ok(None)), "{line:?}");
+        }
+    }
+
+    #[test]
+    fn numbers() {
+        assert_eq!(operands(b"write 01 0000000000000ABc"), [1, 0xabc]);
+        assert_eq!(operands(b"\tset_ip  ff\t\t0001 "), [255, 1]);
+        assert_eq!(operands(b"set_now ffffffffFFFFFFFF"), [u64::MAX]);
+        assert_eq!(fault(b"set_now 00000000000000000"), Some(Fault::BadNumber));
+        assert_eq!(fault(b"set_now 0x1"), Some(Fault::BadNumber));
+        assert_eq!(fault(b"set_now 1\r"), Some(Fault::BadNumber));
+        assert_eq!(fault(b"set_now \xc3\xa9"), Some(Fault::BadNumber));
+        assert_eq!(fault(b"set_now +1"), Some(Fault::BadNumber));
+    }
+
+    #[test]
+    fn order_of_the_checks() {
+        assert_eq!(fault(b"Count zz"), Some(Fault::UnknownOperation));
+        assert_eq!(fault(b"count\r"), Some(Fault::UnknownOperation));
+        assert_eq!(fault(b"count#"), Some(Fault::UnknownOperation));
+        assert_eq!(fault(b"count # why"), Some(Fault::WrongNumberOfOperands));
+        assert_eq!(fault(b"mfc0 zz 1"), Some(Fault::WrongNumberOfOperands));
+        assert_eq!(fault(b"set_ip 100 g"), Some(Fault::BadNumber));
+        assert_eq!(fault(b"set_ip 0 2"), Some(Fault::OutOfRange));
+        assert_eq!(fault(b"set_ip 100 1"), Some(Fault::OutOfRange));
+    }
+}

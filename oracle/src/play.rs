@@ -1,0 +1,104 @@
+//! A whole trace, from a fresh start to its end or its first fault.
+
+use crate::machine::Machine;
+use crate::parse::{lines, parse, Fault, Lines, LIMIT};
+
+/// The answer to a trace over the limit.
+pub const TOO_LONG: &str = "trace too long";
+
+/// One answer of a run.
+pub struct Answer {
+    /// The number of the line that asked, from 1; 0 for the trace as a whole.
+    pub line: usize,
+    /// The operation's name, or what is wrong.
+    pub asked: &'static str,
+    /// What a run writes, without the last line's end.
+    pub text: String,
+}
+
+/// A run: gives the answers one by one.
+pub struct Play<'a> {
+    machine: Machine,
+    lines: Lines<'a>,
+    line: usize,
+    too_long: bool,
+}
+
+pub fn play(trace: &[u8]) -> Play<'_> {
+    let too_long = trace.len() > LIMIT;
+    Play {
+        machine: Machine::new(),
+        lines: lines(if too_long { b"" } else { trace }),
+        line: 0,
+        too_long,
+    }
+}
+
+impl Iterator for Play<'_> {
+    type Item = Answer;
+
+    fn next(&mut self) -> Option<Answer> {
+        if std::mem::take(&mut self.too_long) {
+            return Some(self.answer(TOO_LONG, TOO_LONG.into()));
+        }
+        loop {
+            let line = self.lines.next()?;
+            self.line += 1;
+            match parse(line) {
+                Ok(None) => {}
+                Ok(Some(call)) => {
+                    let text = call.operation.run(&mut self.machine, &call.operands);
+                    return Some(self.answer(call.operation.name, text));
+                }
+                Err(fault) => return Some(self.end(fault)),
+            }
+        }
+    }
+}
+
+impl Play<'_> {
+    fn answer(&self, asked: &'static str, text: String) -> Answer {
+        Answer { line: self.line, asked, text }
+    }
+
+    /// A fault's line is the run's last.
+    fn end(&mut self, fault: Fault) -> Answer {
+        self.lines = lines(b"");
+        let words = fault.words();
+        self.answer(words, format!("line {}: {words}", self.line))
+    }
+}
+
+#[cfg(test)]
+mod tests {
+    use super::*;
+
+    fn text(trace: &[u8]) -> String {
+        let answers: Vec<String> = play(trace).map(|answer| answer.text).collect();
+        answers.join("\n")
+    }
+
+    #[test]
+    fn passed_over_lines_count_and_a_fault_ends_the_run() {
+        let trace = b"# first\r\n\nset_now 5\ncount_now\n mfc0\ncount_now";
+        let answers = "ok\n= 0000000000000005\nline 5: wrong number of operands";
+        assert_eq!(text(trace), answers);
+    }
+
+    #[test]
+    fn from_rs_refuses_all_but_four() {
+        let trace = b"from_rs 0\nfrom_rs 1\nfrom_rs 4\nfrom_rs 5\nfrom_rs 2\nfrom_rs 20";
+        let answers = "= 0000000000000000\n= 0000000000000001\n= 0000000000000002\n\
+                       = 0000000000000003\nrefused 6\nrefused 6";
+        assert_eq!(text(trace), answers);
+    }
+
+    #[test]
+    fn the_limit() {
+        let mut trace = b"timer_edge\n#".to_vec();
+        trace.resize(LIMIT, b'x');
+        assert_eq!(text(&trace), "= 0");
+        trace.push(b'\n');
+        assert_eq!(text(&trace), "trace too long");
+    }
+}
