@@ -3,14 +3,13 @@ use mathlib.Core.Path.{_≡_, refl, ap, ap₂, sym, _∙_}
 use Prim.Native.Nat.{ℕ, zero, suc, _+_, _-_, _*_, _/_, _%_, _^_, _<_, min, max}
 use native.Mathlib.Nat.{pow-suc, min-zero, max-zero, zero-max, min-eq-left, min-le-left, lt-of-le-of-lt}
 use native.Mathlib.Omega.{arith}
-use mathlib.Core.Bool.{Bool, true, false}
+use mathlib.Core.Bool.{Bool, true, false, cond}
 use lib.Dec.{eqb}
 use lib.Bits.{bitAnd, bitOr, and-step, or-step, and-zero-r}
-use Rattle.bits.specs.Choice.{pick}
 use Rattle.bits.specs.Mask.{mergedBits}
 
 -- one bit: y's under the complement, x's under the mask
-one-bit : (m x y : ℕ) → m < 2 → x < 2 → y < 2 → max (min y (1 - m)) (min x m) ≡ pick (eqb m 1) x y
+one-bit : (m x y : ℕ) → m < 2 → x < 2 → y < 2 → max (min y (1 - m)) (min x m) ≡ cond (eqb m 1) x y
 one-bit zero x y hm hx hy = rw (min-zero x, min-eq-left {n = y} {m = 1} (omega arith)) (max-zero y)
 one-bit (suc zero) x y hm hx hy = rw (min-zero y, min-eq-left {n = x} {m = 1} (omega arith)) (zero-max x)
 one-bit (suc (suc m)) x y hm hx hy = omega arith
@@ -58,10 +57,10 @@ merges (suc n) m x y hm hx hy =
     (merges n (m / 2) (x / 2) (y / 2) (omega arith) (omega arith) (omega arith))
     (one-bit (m % 2) (x % 2) (y % 2) (omega arith) (omega arith) (omega arith)))
 
-pick-lt : (m x y : ℕ) → pick (eqb (m % 2) 1) (x % 2) (y % 2) < 2
+pick-lt : (m x y : ℕ) → cond (eqb (m % 2) 1) (x % 2) (y % 2) < 2
 pick-lt m x y = go (eqb (m % 2) 1)
   where
-    go : (b : Bool) → pick b (x % 2) (y % 2) < 2
+    go : (b : Bool) → cond b (x % 2) (y % 2) < 2
     go true = omega arith
     go false = omega arith
 
@@ -76,11 +75,11 @@ merged-half : (n m x y : ℕ) → mergedBits (suc n) m x y / 2 ≡ mergedBits n 
 unfolding mergedBits
 merged-half n m x y = half (mergedBits n (m / 2) (x / 2) (y / 2)) _ (pick-lt m x y)
 
-merged-last : (n m x y : ℕ) → mergedBits (suc n) m x y % 2 ≡ pick (eqb (m % 2) 1) (x % 2) (y % 2)
+merged-last : (n m x y : ℕ) → mergedBits (suc n) m x y % 2 ≡ cond (eqb (m % 2) 1) (x % 2) (y % 2)
 unfolding mergedBits
 merged-last n m x y = last (mergedBits n (m / 2) (x / 2) (y / 2)) _ (pick-lt m x y)
 
-bit-under : (m x y : ℕ) → m < 2 → min (pick (eqb m 1) x y) m ≡ min x m
+bit-under : (m x y : ℕ) → m < 2 → min (cond (eqb m 1) x y) m ≡ min x m
 bit-under zero x y h = min-zero y ∙ sym (min-zero x)
 bit-under (suc zero) x y h = refl
 bit-under (suc (suc m)) x y h = omega arith
@@ -98,7 +97,7 @@ merged-under (suc n) m x y h =
     (ap (λ (z : ℕ). min z (m % 2)) (merged-last n m x y) ∙ bit-under (m % 2) (x % 2) (y % 2) (omega arith))
     ∙ sym (and-step x m)
 
-bit-again : (b : Bool) (x x′ y : ℕ) → pick b x (pick b x′ y) ≡ pick b x y
+bit-again : (b : Bool) (x x′ y : ℕ) → cond b x (cond b x′ y) ≡ cond b x y
 bit-again true x x′ y = refl
 bit-again false x x′ y = refl
 
@@ -109,4 +108,4 @@ merged-again zero m x x′ y = refl
 merged-again (suc n) m x x′ y =
     ap₂ (λ (a b : ℕ). a * 2 + b)
     (ap (mergedBits n (m / 2) (x / 2)) (merged-half n m x′ y) ∙ merged-again n (m / 2) (x / 2) (x′ / 2) (y / 2))
-    (ap (pick (eqb (m % 2) 1) (x % 2)) (merged-last n m x′ y) ∙ bit-again (eqb (m % 2) 1) (x % 2) (x′ % 2) (y % 2))
+    (ap (cond (eqb (m % 2) 1) (x % 2)) (merged-last n m x′ y) ∙ bit-again (eqb (m % 2) 1) (x % 2) (x′ % 2) (y % 2))

@@ -1,32 +1,31 @@
 -- A rule of every number below a limit, by one test that is computed at each of them.
 use mathlib.Core.Path.{_≡_, refl, subst, sym}
-use mathlib.Core.Bool.{Bool, true, false}
+use mathlib.Core.Bool.{Bool, true, false, _&&_, not}
 use Prim.Native.Nat.{ℕ, zero, suc, _<_}
 use native.Mathlib.Nat.{not-suc-le-zero}
 use native.Mathlib.Decide.{ℕ-discrete}
 use native.Mathlib.Omega.{arith}
-use Rattle.bits.specs.Choice.{both, not}
 
-both-left : (a b : Bool) → both a b ≡ true → a ≡ true
-both-left true b e = refl
-both-left false b e = e
+and-left : (a b : Bool) → (a && b) ≡ true → a ≡ true
+and-left true b e = refl
+and-left false b e = e
 
-both-right : (a b : Bool) → both a b ≡ true → b ≡ true
-both-right true b e = e
-both-right false true e = refl
-both-right false false e = e
+and-right : (a b : Bool) → (a && b) ≡ true → b ≡ true
+and-right true b e = e
+and-right false true e = refl
+and-right false false e = e
 
 -- the test holds at each number below n
 abbrev pub below : ℕ → (ℕ → Bool) → Bool
 below zero f = true
-below (suc n) f = both (f n) (below n f)
+below (suc n) f = f n && below n f
 
 pub at-each : (n : ℕ) (f : ℕ → Bool) → below n f ≡ true → (k : ℕ) → k < n → f k ≡ true
 at-each zero f e k h = absurd (not-suc-le-zero h)
-at-each (suc n) f e k h = go (ℕ-discrete k n) (at-each n f (both-right (f n) (below n f) e) k)
+at-each (suc n) f e k h = go (ℕ-discrete k n) (at-each n f (and-right (f n) (below n f) e) k)
   where
     go : Dec (k ≡ n) → (k < n → f k ≡ true) → f k ≡ true
-    go (yes p) rest = subst (λ (m : ℕ). f m ≡ true) (sym p) (both-left (f n) (below n f) e)
+    go (yes p) rest = subst (λ (m : ℕ). f m ≡ true) (sym p) (and-left (f n) (below n f) e)
     go (no p) rest = rest (omega arith)
 
 -- two tests answer alike

@@ -1,7 +1,7 @@
 -- 32 bits in a 64-bit word.
+use mathlib.Core.Bool.{cond}
 use Prim.Native.Nat.{ℕ, _+_, _-_, _%_, _^_}
 use lib.Dec.{ltb}
-use Rattle.bits.specs.Choice.{pick}
 
 -- the low 32 bits of a word
 abbrev pub low32Of : ℕ → ℕ
@@ -9,7 +9,7 @@ low32Of x = x % 2 ^ 32
 
 -- 32 bits as a signed number, in 64 bits: from 2^31 up it stands for itself less 2^32
 abbrev pub signExtended : ℕ → ℕ
-signExtended x = pick (ltb x (2 ^ 31)) x (x + (2 ^ 64 - 2 ^ 32))
+signExtended x = cond (ltb x (2 ^ 31)) x (x + (2 ^ 64 - 2 ^ 32))
 
 -- 32 bits as an unsigned number, in 64 bits
 abbrev pub zeroExtended : ℕ → ℕ

@@ -1,8 +1,7 @@
 -- A field of a word, as the manual's figures draw it: bits hi..lo, bit 0 the lowest.
 use Prim.Native.Nat.{ℕ, _+_, _-_, _*_, _/_, _%_, _^_}
-use mathlib.Core.Bool.{Bool}
+use mathlib.Core.Bool.{Bool, _&&_, cond}
 use lib.Dec.{leb}
-use Rattle.bits.specs.Choice.{pick, both}
 
 -- bits hi..lo of x, as a number
 abbrev pub fieldOf : ℕ → ℕ → ℕ → ℕ
@@ -10,9 +9,9 @@ fieldOf x hi lo = x / 2 ^ lo % 2 ^ (hi + 1 - lo)
 
 -- hi..lo is a part of a 64-bit word
 abbrev pub inWord : ℕ → ℕ → Bool
-inWord hi lo = both (leb lo hi) (leb hi 63)
+inWord hi lo = leb lo hi && leb hi 63
 
 -- x above bit hi, the low bits of v at hi..lo, x below bit lo; x itself where hi..lo is no part of a word
 unfoldable pub withFieldOf : ℕ → ℕ → ℕ → ℕ → ℕ
 withFieldOf x hi lo v =
-    pick (inWord hi lo) (x / 2 ^ (hi + 1) * 2 ^ (hi + 1) + v % 2 ^ (hi + 1 - lo) * 2 ^ lo + x % 2 ^ lo) x
+    cond (inWord hi lo) (x / 2 ^ (hi + 1) * 2 ^ (hi + 1) + v % 2 ^ (hi + 1 - lo) * 2 ^ lo + x % 2 ^ lo) x

@@ -1,4 +1,3 @@
-pub mod Choice
 pub mod Told
 pub mod Field
 pub mod Mask

@@ -1,10 +1,9 @@
 -- The numbers and values of answers are one-to-one: each has the answer that it came from.
 use mathlib.Core.Path.{_≡_, refl, ap}
-use mathlib.Core.Bool.{true, false}
+use mathlib.Core.Bool.{true, false, cond}
 use mathlib.Core.List.{List, [], _∷_}
 use Prim.Native.Nat.{ℕ}
 use lib.Dec.{eqb}
-use Rattle.bits.specs.Choice.{pick}
 use Rattle.bits.specs.Told.{Told}
 use Rattle.bits.proofs.Same.{one-to-one}
 use Rattle.cop0.specs.declared.access.Cop0Op.{Cop0Op}
@@ -17,7 +16,7 @@ use Rattle.cop0.specs.Access.{rsOf, toldFromRs}
 use Rattle.cop0.specs.Advance.{toldAdvance}
 
 abbrev formOf : ℕ → Cop0Op
-formOf rs = pick (eqb rs 0) Mfc0 (pick (eqb rs 1) Dmfc0 (pick (eqb rs 4) Mtc0 Dmtc0))
+formOf rs = cond (eqb rs 0) Mfc0 (cond (eqb rs 1) Dmfc0 (cond (eqb rs 4) Mtc0 Dmtc0))
 
 form-rs : (o : Cop0Op) → formOf (rsOf o) ≡ o
 form-rs Mfc0 = refl

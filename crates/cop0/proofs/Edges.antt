@@ -1,17 +1,16 @@
 -- Whether Compare lies within the next n counts, as n grows.
-use mathlib.Core.Path.{_≡_, refl, ap, _∙_, sym}
-use mathlib.Core.Bool.{Bool, true, false}
+use mathlib.Core.Path.{_≡_, ap, _∙_, sym}
+use mathlib.Core.Bool.{Bool, true, false, _&&_, and-false}
 use Prim.Native.Nat.{ℕ, suc, _+_, _-_, _%_, _^_, _<_, _≤_}
 use native.Mathlib.Nat.{mod-add-mod}
 use native.Mathlib.Decide.{decLe, ℕ-discrete}
 use native.Mathlib.Omega.{arith}
 use lib.Dec.{leb}
 use borrow.Author.Tests.{le-leb, lt-leb}
-use Rattle.bits.specs.Choice.{both}
 use Rattle.cop0.specs.Clock.{less, countAt}
 
 abbrev pub edgeIn : ℕ → ℕ → Bool
-edgeIn d n = both (leb 1 d) (leb d n)
+edgeIn d n = leb 1 d && leb d n
 
 edge-yes : (d n : ℕ) → 1 ≤ d → d ≤ n → edgeIn d n ≡ true
 edge-yes d n h l = simp (le-leb 1 d h, le-leb d n l)
@@ -19,12 +18,8 @@ edge-yes d n h l = simp (le-leb 1 d h, le-leb d n l)
 edge-none : (d n : ℕ) → d < 1 → edgeIn d n ≡ false
 edge-none d n h = simp (lt-leb 1 d h)
 
-both-false : (b : Bool) → both b false ≡ false
-both-false true = refl
-both-false false = refl
-
 edge-far : (d n : ℕ) → n < d → edgeIn d n ≡ false
-edge-far d n h = simp (lt-leb d n h) (both-false (leb 1 d))
+edge-far d n h = simp (lt-leb d n h) (and-false (leb 1 d))
 
 pub edge-start : (d : ℕ) → edgeIn d 0 ≡ false
 edge-start d = go (decLe 1 d)

@@ -1,11 +1,10 @@
 -- What the clock's theorem asks of a record holds of the fresh one, and every operation that a session has keeps it.
 use mathlib.Core.Path.{_≡_, refl, _∙_}
-use mathlib.Core.Bool.{Bool, true, false}
+use mathlib.Core.Bool.{Bool, true, false, cond}
 use Prim.Native.Nat.{ℕ, _%_, _^_, _<_}
 use native.Mathlib.Omega.{arith}
 use lib.Dec.{eqb, ltb}
 use lib.ListN.{length, length-set}
-use Rattle.bits.specs.Choice.{pick}
 use Rattle.bits.specs.Extension.{low32Of}
 use Rattle.cop0.specs.declared.registers.Cop0.{Cop0}
 use Rattle.cop0.specs.Registers.{Random, Wired, Count, Compare}
@@ -47,9 +46,9 @@ besides-kept c k n v = go (eqb n Count) (eqb n Compare) (eqb n Wired)
 
     go : (b₁ b₂ b₃ : Bool)
         → Kept
-        (pick b₁ (asked (withEpoch c (low32Of v) (c .now)))
-        (pick b₂ (asked (setIpOf c 7 false))
-        (pick b₃ (withReg c Random 31) c)))
+        (cond b₁ (asked (withEpoch c (low32Of v) (c .now)))
+        (cond b₂ (asked (setIpOf c 7 false))
+        (cond b₃ (withReg c Random 31) c)))
     go true b₂ b₃ = asked-kept (withEpoch c (low32Of v) (c .now)) (k .clock) (k .file)
     go false true b₃ = asked-kept (setIpOf c 7 false) (to-compare .clock) (to-compare .file)
     go false false true = reg-kept c k Random 31
@@ -71,7 +70,7 @@ pub advance-kept : (c : Cop0) → Kept c → (n m : ℕ) → Kept (advanceOf c n
 unfolding advanceOf
 advance-kept c k n m = go (ltb n (2 ^ 32)) (edgeOf (moved c n m))
   where
-    go : (b e : Bool) → Kept (pick b (raisedIf e (asked (moved c n m))) c)
+    go : (b e : Bool) → Kept (cond b (raisedIf e (asked (moved c n m))) c)
     go true true = set-ip-kept (asked (moved c n m)) (moved-kept c k n m) 7 true
     go true false = moved-kept c k n m
     go false e = k

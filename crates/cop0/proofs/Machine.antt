@@ -1,14 +1,13 @@
 -- The advance equals the machine of single ticks and steps.
 use mathlib.Core.Path.{_≡_, refl, ap, _∙_, sym}
 use mathlib.Core.List.{List, [], _∷_}
-use mathlib.Core.Bool.{Bool, true, false}
+use mathlib.Core.Bool.{Bool, true, false, _&&_}
 use Prim.Native.Nat.{ℕ, zero, suc, _+_, _%_, _^_, _<_}
 use native.Mathlib.Omega.{arith}
 use lib.ListN.{getD, set, length, length-set}
 use lib.Seq.{getD-set-other, getD-set-same, set-set, set-comm, lt-length-set}
 use lib.Dec.{leb}
 use borrow.Author.Tests.{lt-ltb, eqb-true, eqb-false}
-use Rattle.bits.specs.Choice.{both}
 use Rattle.bits.specs.Told.{answered}
 use Rattle.bits.specs.Field.{fieldOf, withFieldOf}
 use Rattle.cop0.specs.declared.registers.Cop0.{Cop0}
@@ -221,7 +220,7 @@ unfolding edgeOf moved tickRandomByOf
 edge-is c k n m h =
     let x : ℕ = randomSteps (wiredOf c) m (randomOf c) in
     rw (getD-set-other (c .regs) Random Compare x 0 (omega arith), count-moves (c .now) (c .«count_epoch_value») (c .«count_epoch_tick») n, k .mark)
-    (ap (λ (t : ℕ). both (leb 1 (toGo c)) (leb (toGo c) t)) (gone (countOf c) n (omega arith) h))
+    (ap (λ (t : ℕ). leb 1 (toGo c) && leb (toGo c) t) (gone (countOf c) n (omega arith) h))
 
 state-is : (c : Cop0) (n m : ℕ) (b : Bool) → raisedIf b (asked (moved c n m)) ≡ jumped (tickRandomByOf c m) n b
 unfolding asked moved jumped tickRandomByOf

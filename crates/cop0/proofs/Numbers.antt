@@ -1,9 +1,8 @@
 -- The lists of register numbers, as tests.
 use mathlib.Core.Path.{_≡_, refl}
-use mathlib.Core.Bool.{Bool}
+use mathlib.Core.Bool.{Bool, _&&_, _||_}
 use Prim.Native.Nat.{ℕ, _<_}
 use lib.Dec.{eqb, leb}
-use Rattle.bits.specs.Choice.{both, either}
 use Rattle.bits.specs.Field.{fieldOf}
 use Rattle.bits.proofs.Tables.{agree}
 use Rattle.cop0.specs.Registers.{among, wide, unused}
@@ -15,7 +14,7 @@ wide-bits = agree 32 (λ k. eqb (fieldOf 0x4010_451C k k) 1) wide refl
 
 -- 7, 31, and 21 to 25
 abbrev pub listed : ℕ → Bool
-listed k = either (eqb k 7) (either (eqb k 31) (both (leb 21 k) (leb k 25)))
+listed k = eqb k 7 || (eqb k 31 || leb 21 k && leb k 25)
 
 pub unused-listed : (k : ℕ) → k < 32 → listed k ≡ unused k
 unfolding unused among

@@ -1,13 +1,12 @@
 -- Random by n steps: the walk down to Wired, and then the cycle that is entered at 31.
 use mathlib.Core.Path.{_≡_, ap, _∙_, sym}
-use mathlib.Core.Bool.{Bool, true, false}
+use mathlib.Core.Bool.{Bool, true, false, cond}
 use Prim.Native.Nat.{ℕ, zero, suc, _+_, _-_, _%_, _<_, _≤_}
 use native.Mathlib.Nat.{mod-lt, mod-eq-of-lt, mod-eq-sub-mod}
 use native.Mathlib.Decide.{decLe, ℕ-discrete}
 use native.Mathlib.Omega.{arith}
 use lib.Dec.{eqb}
 use borrow.Author.Tests.{eq-eqb, ne-eqb}
-use Rattle.bits.specs.Choice.{pick}
 use Rattle.cop0.specs.declared.registers.Cop0.{Cop0}
 use Rattle.cop0.specs.Registers.{Random}
 use Rattle.cop0.specs.Record.{withReg}
@@ -25,7 +24,7 @@ pub step-lt : (w r : ℕ) → randomStep w r < 64
 unfolding randomStep
 step-lt w r = go (eqb r w)
   where
-    go : (b : Bool) → pick b 31 ((r + 63) % 64) < 64
+    go : (b : Bool) → cond b 31 ((r + 63) % 64) < 64
     go true = omega arith
     go false = omega arith
 

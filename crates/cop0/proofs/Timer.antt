@@ -1,11 +1,10 @@
 -- What the timer's question and the advance come to.
 use mathlib.Core.Path.{_≡_, refl}
-use mathlib.Core.Bool.{Bool}
+use mathlib.Core.Bool.{Bool, _&&_}
 use mathlib.Core.List.{[], _∷_}
 use Prim.Native.Nat.{ℕ, _+_, _%_, _^_, _<_}
 use lib.Dec.{leb}
 use borrow.Author.Tests.{lt-ltb}
-use Rattle.bits.specs.Choice.{both}
 use Rattle.bits.specs.Told.{answered}
 use Rattle.cop0.specs.declared.registers.Cop0.{Cop0}
 use Rattle.cop0.specs.declared.clock.Polled.{Polled}
@@ -19,7 +18,7 @@ use Rattle.cop0.specs.Advance.{moved, raisedIf, advanceTold, advanceOf}
 pub polls : (c a : Cop0) (traveled distance : ℕ) (e : Bool)
     → traveled ≡ sinceAsked c
     → distance ≡ toCompare c
-    → e ≡ both (leb 1 distance) (leb distance traveled)
+    → e ≡ (leb 1 distance && leb distance traveled)
     → a ≡ asked c
     → _≡_ {A = Polled} (record { edge = e; cop0 = a }) (polledOf c)
 unfolding polledOf edgeOf

@@ -1,7 +1,7 @@
 -- The access instructions MFC0, DMFC0, MTC0 and DMTC0, and the rs field that names them.
+use mathlib.Core.Bool.{cond}
 use mathlib.Core.List.{[], _∷_}
 use Prim.Native.Nat.{ℕ, _%_}
-use Rattle.bits.specs.Choice.{pick}
 use Rattle.bits.specs.Told.{Told, answered, refused}
 use Rattle.bits.specs.Extension.{low32Of, signExtended, zeroExtended}
 use Rattle.cop0.specs.declared.registers.Cop0.{Cop0}
@@ -22,7 +22,7 @@ dmfc0Of c n = readOf c n
 
 -- what MTC0 writes to register n: the low 32 bits, signed for a register of 64 bits
 unfoldable pub moved32 : ℕ → ℕ → ℕ
-moved32 n v = pick (wide (n % 32)) (signExtended (low32Of v)) (zeroExtended (low32Of v))
+moved32 n v = cond (wide (n % 32)) (signExtended (low32Of v)) (zeroExtended (low32Of v))
 
 -- the latch takes the value, and the register takes it under its mask
 unfoldable pub dmtc0Of : Cop0 → ℕ → ℕ → Cop0
@@ -45,4 +45,4 @@ toldFromRs (Refused n) = refused n
 
 -- refusal 6: `from_rs` of another number
 unfoldable pub fromRsOf : ℕ → Told
-fromRsOf rs = pick (among (0 ∷ 1 ∷ 4 ∷ 5 ∷ []) rs) (answered (rs ∷ [])) (refused 6)
+fromRsOf rs = cond (among (0 ∷ 1 ∷ 4 ∷ 5 ∷ []) rs) (answered (rs ∷ [])) (refused 6)

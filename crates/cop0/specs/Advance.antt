@@ -1,9 +1,8 @@
 -- The clock advance: the clock moves forward, Random steps, the timer is asked, and an edge sets pending bit 7.
-use mathlib.Core.Bool.{Bool, true, false}
+use mathlib.Core.Bool.{Bool, true, false, cond}
 use mathlib.Core.List.{[], _∷_}
 use Prim.Native.Nat.{ℕ, _+_, _%_, _^_}
 use lib.Dec.{ltb}
-use Rattle.bits.specs.Choice.{pick}
 use Rattle.bits.specs.Told.{Told, answered, refused}
 use Rattle.cop0.specs.declared.registers.Cop0.{Cop0}
 use Rattle.cop0.specs.declared.advance.AdvanceAnswer.{AdvanceAnswer}
@@ -29,8 +28,8 @@ raisedIf false c = c
 
 -- refusal 5: counts from 2^32 up
 unfoldable pub advanceTold : Cop0 → ℕ → ℕ → Told
-advanceTold c counts steps = pick (ltb counts (2 ^ 32)) (answered (bit (edgeOf (moved c counts steps)) ∷ [])) (refused 5)
+advanceTold c counts steps = cond (ltb counts (2 ^ 32)) (answered (bit (edgeOf (moved c counts steps)) ∷ [])) (refused 5)
 
 unfoldable pub advanceOf : Cop0 → ℕ → ℕ → Cop0
 advanceOf c counts steps =
-    pick (ltb counts (2 ^ 32)) (raisedIf (edgeOf (moved c counts steps)) (asked (moved c counts steps))) c
+    cond (ltb counts (2 ^ 32)) (raisedIf (edgeOf (moved c counts steps)) (asked (moved c counts steps))) c

@@ -1,8 +1,7 @@
 -- Count, Compare and the timer (6.3.3, 6.3.4).
-use mathlib.Core.Bool.{Bool}
+use mathlib.Core.Bool.{Bool, _&&_, cond}
 use Prim.Native.Nat.{ℕ, _+_, _-_, _%_, _^_}
 use lib.Dec.{eqb, leb}
-use Rattle.bits.specs.Choice.{pick, both}
 use Rattle.bits.specs.Extension.{low32Of}
 use Rattle.cop0.specs.declared.registers.Cop0.{Cop0}
 use Rattle.cop0.specs.declared.clock.Polled.{Polled}
@@ -35,7 +34,7 @@ toCompare c = less 32 (compareOf c) (c .«last_count»)
 
 -- an edge: 1 ≤ the distance ≤ the counts since last asked
 unfoldable pub edgeOf : Cop0 → Bool
-edgeOf c = both (leb 1 (toCompare c)) (leb (toCompare c) (sinceAsked c))
+edgeOf c = leb 1 (toCompare c) && leb (toCompare c) (sinceAsked c)
 
 -- the last-asked mark moved to the present Count
 unfoldable pub asked : Cop0 → Cop0
@@ -46,4 +45,4 @@ polledOf c = record { edge = edgeOf c; cop0 = asked c }
 
 -- the distance to Compare, or 2^32 - 1 where it is 0
 unfoldable pub ticksUntilMatchOf : Cop0 → ℕ
-ticksUntilMatchOf c = pick (eqb (toCompare c) 0) (2 ^ 32 - 1) (toCompare c)
+ticksUntilMatchOf c = cond (eqb (toCompare c) 0) (2 ^ 32 - 1) (toCompare c)

@@ -2,8 +2,7 @@
 use Prim.Native.Nat.{ℕ, _*_, _%_, _^_}
 use lib.Dec.{eqb}
 use lib.Bits.{bitOr}
-use mathlib.Core.Bool.{false}
-use Rattle.bits.specs.Choice.{pick}
+use mathlib.Core.Bool.{false, cond}
 use Rattle.bits.specs.Mask.{under, merged}
 use Rattle.bits.specs.Extension.{low32Of}
 use Rattle.cop0.specs.declared.registers.Cop0.{Cop0}
@@ -19,9 +18,9 @@ configOf c = bitOr (bitOr (under (archMask Config) (reg c Config)) (c .ec * 2 ^ 
 -- register n below 32
 unfoldable pub readAt : Cop0 → ℕ → ℕ
 readAt c n =
-    pick (unused n) (c .«write_latch»)
-    (pick (eqb n Count) (countOf c)
-    (pick (eqb n Config) (configOf c)
+    cond (unused n) (c .«write_latch»)
+    (cond (eqb n Count) (countOf c)
+    (cond (eqb n Config) (configOf c)
     (under (archMask n) (reg c n))))
 
 abbrev pub readOf : Cop0 → ℕ → ℕ
@@ -31,9 +30,9 @@ readOf c n = readAt c (n % 32)
 -- pending bit (6.4.18); both move the last-asked mark; Wired sets Random to 31 (5.4.2)
 unfoldable pub besides : ℕ → ℕ → Cop0 → Cop0
 besides n v c =
-    pick (eqb n Count) (asked (withEpoch c (low32Of v) (c .now)))
-    (pick (eqb n Compare) (asked (setIpOf c 7 false))
-    (pick (eqb n Wired) (withReg c Random 31)
+    cond (eqb n Count) (asked (withEpoch c (low32Of v) (c .now)))
+    (cond (eqb n Compare) (asked (setIpOf c 7 false))
+    (cond (eqb n Wired) (withReg c Random 31)
     c))
 
 -- a write replaces the bits under the register's write mask only

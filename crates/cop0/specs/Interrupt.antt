@@ -1,9 +1,8 @@
 -- Cause's pending bits IP7..IP0 (Cause 15..8) and their masks IM7..IM0 (Status 15..8) (6.3.5, 6.3.6).
-use mathlib.Core.Bool.{Bool, true, false}
+use mathlib.Core.Bool.{Bool, true, false, _&&_, not}
 use Prim.Native.Nat.{ℕ, _+_, _%_}
 use lib.Dec.{eqb}
 use lib.Bits.{bitAnd}
-use Rattle.bits.specs.Choice.{both, not}
 use Rattle.bits.specs.Field.{fieldOf, withFieldOf}
 use Rattle.cop0.specs.declared.registers.Cop0.{Cop0}
 use Rattle.cop0.specs.Registers.{Status, Cause}
@@ -20,7 +19,7 @@ setIpOf c b on = withReg c Cause (withFieldOf (reg c Cause) (8 + b % 8) (8 + b %
 -- IE is 1, EXL and ERL are 0, and a pending bit meets its mask bit (6.1, 6.3.5; figure 14-4)
 unfoldable pub interruptPendingOf : Cop0 → Bool
 interruptPendingOf c =
-    both (eqb (fieldOf (reg c Status) 0 0) 1)
-    (both (eqb (fieldOf (reg c Status) 1 1) 0)
-    (both (eqb (fieldOf (reg c Status) 2 2) 0)
-    (not (eqb (bitAnd (fieldOf (reg c Cause) 15 8) (fieldOf (reg c Status) 15 8)) 0))))
+    eqb (fieldOf (reg c Status) 0 0) 1
+    && eqb (fieldOf (reg c Status) 1 1) 0
+    && eqb (fieldOf (reg c Status) 2 2) 0
+    && not (eqb (bitAnd (fieldOf (reg c Cause) 15 8) (fieldOf (reg c Status) 15 8)) 0)

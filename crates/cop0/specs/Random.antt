@@ -1,7 +1,7 @@
 -- Random, a six-bit counter between 31 and Wired (5.4.2).
+use mathlib.Core.Bool.{cond}
 use Prim.Native.Nat.{ℕ, zero, suc, _+_, _%_}
 use lib.Dec.{eqb}
-use Rattle.bits.specs.Choice.{pick}
 use Rattle.bits.specs.Field.{fieldOf}
 use Rattle.cop0.specs.declared.registers.Cop0.{Cop0}
 use Rattle.cop0.specs.Registers.{Random, Wired}
@@ -16,7 +16,7 @@ wiredOf c = fieldOf (reg c Wired) 5 0
 
 -- one step: at Wired Random becomes 31, else it falls by one modulo 64
 unfoldable pub randomStep : ℕ → ℕ → ℕ
-randomStep wired random = pick (eqb random wired) 31 ((random + 63) % 64)
+randomStep wired random = cond (eqb random wired) 31 ((random + 63) % 64)
 
 -- n steps
 unfoldable pub randomSteps : ℕ → ℕ → ℕ → ℕ

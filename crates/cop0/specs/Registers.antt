@@ -1,10 +1,9 @@
 -- COP0's registers: their numbers, widths and bits (User's Manual, table 1-2 and the register figures of chapters 5 and 6).
-use mathlib.Core.Bool.{Bool, false}
+use mathlib.Core.Bool.{Bool, false, _||_}
 use mathlib.Core.List.{List, [], _∷_, map}
 use Prim.Native.Nat.{ℕ, _+_, _-_, _^_}
 use lib.Dec.{eqb}
 use lib.ListN.{getD}
-use Rattle.bits.specs.Choice.{either}
 
 -- the numbers of those that do more than hold their bits
 abbrev pub Random : ℕ
@@ -34,7 +33,7 @@ Config = 16
 -- n stands in the list
 unfoldable pub among : List ℕ → ℕ → Bool
 among [] n = false
-among (m ∷ ms) n = either (eqb n m) (among ms n)
+among (m ∷ ms) n = eqb n m || among ms n
 
 -- the registers of 64 bits: EntryLo0, EntryLo1, Context, BadVAddr, EntryHi, EPC, XContext, ErrorEPC
 unfoldable pub wide : ℕ → Bool

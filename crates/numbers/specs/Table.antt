@@ -1,9 +1,8 @@
 -- Rows of a table: what a definition computes, and what the scope (document 01) expects.
-use mathlib.Core.Bool.{Bool, true, false}
+use mathlib.Core.Bool.{Bool, true, false, _&&_}
 use mathlib.Core.List.{List, [], _∷_}
 use Prim.Native.Nat.{ℕ}
 use lib.Dec.{eqb}
-use Rattle.bits.specs.Choice.{both}
 use Rattle.bits.specs.Told.{Told}
 
 pub record Row : Type 0 where
@@ -25,9 +24,9 @@ abbrev pub equal : List ℕ → List ℕ → Bool
 equal [] [] = true
 equal [] (y ∷ ys) = false
 equal (x ∷ xs) [] = false
-equal (x ∷ xs) (y ∷ ys) = both (eqb x y) (equal xs ys)
+equal (x ∷ xs) (y ∷ ys) = eqb x y && equal xs ys
 
 -- every row holds
 abbrev pub all : List Row → Bool
 all [] = true
-all (r ∷ rs) = both (equal (r .computed) (r .expected)) (all rs)
+all (r ∷ rs) = equal (r .computed) (r .expected) && all rs

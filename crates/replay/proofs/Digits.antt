@@ -1,6 +1,6 @@
 -- Laws of hexadecimal numbers: ranges of bytes, a word's length, and one digit more.
 use mathlib.Core.Path.{_≡_, refl}
-use mathlib.Core.Bool.{Bool, true, false}
+use mathlib.Core.Bool.{Bool, true, false, _&&_}
 use mathlib.Core.List.{List}
 use Prim.Native.Nat.{ℕ, _+_, _-_, _*_, _^_, _<_, _≤_}
 use native.Mathlib.Nat.{pow-suc, pow-le-pow-right}
@@ -10,13 +10,12 @@ use lib.Dec.{leb}
 use lib.ListN.{length, getD, drop, drop-of-length-le}
 use lib.Seq.{drop-cons}
 use borrow.Author.Tests.{le-leb, lt-leb, leb-true}
-use Rattle.bits.specs.Choice.{both}
 use Rattle.replay.specs.Number.{within, digitOf, after, numberOf}
 use Rattle.replay.specs.declared.number.Number.the-variants.{Value, Bad}
 
-both-true : (a b : Bool) → both a b ≡ true → a ≡ true
-both-true true b e = refl
-both-true false b e = e
+and-left : (a b : Bool) → (a && b) ≡ true → a ≡ true
+and-left true b e = refl
+and-left false b e = e
 
 module _ (first last n : ℕ) where
   pub inside : first ≤ n → n ≤ last → within first last n ≡ true
@@ -33,7 +32,7 @@ module _ (first last n : ℕ) where
 
   pub from : within first last n ≡ true → first ≤ n
   unfolding within
-  from t = leb-true first n (both-true (leb first n) (leb n last) t)
+  from t = leb-true first n (and-left (leb first n) (leb n last) t)
 
 -- a word's length
 module _ (s : List ℕ) where

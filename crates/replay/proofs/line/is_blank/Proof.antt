@@ -1,6 +1,5 @@
 -- `line::is_blank` is one test, and then the other.
 use borrow.Author.Tests.{eq-eqb, ne-eqb}
-use borrow.Author.Needs.{needs}
 use Rattle.replay.proofs.line.is_blank.Statement.{statement}
 use Rattle.replay.proofs.line.is_blank.Tie as tie
 
