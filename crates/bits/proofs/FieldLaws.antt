@@ -156,3 +156,9 @@ field-lower x hi lo v le top hi′ lo′ le′ h =
     sym (low-field (withFieldOf x hi lo v) hi′ lo′ lo le′ h)
     ∙ ap (λ (y : ℕ). fieldOf y hi′ lo′) (with-below x hi lo v le top)
     ∙ low-field x hi′ lo′ lo le′ h
+
+-- a field of one bit is 0 or 1
+pub bit-lt : (x b : ℕ) → fieldOf x b b < 2
+bit-lt x b =
+    let e : b + 1 - b ≡ 1 = omega arith in
+    rw e (mod-lt (x / 2 ^ b) (omega arith))

@@ -16,3 +16,7 @@ mergedBits (suc n) m x y = mergedBits n (m / 2) (x / 2) (y / 2) * 2 + cond (eqb 
 -- the bits of x under the mask m, and those of y elsewhere
 abbrev pub merged : ℕ → ℕ → ℕ → ℕ
 merged m x y = mergedBits 64 m x y
+
+-- x with the bits of the mask m cleared
+abbrev pub cleared : ℕ → ℕ → ℕ
+cleared m x = merged m 0 x

@@ -1,0 +1,4 @@
+pub mod Scanning
+pub mod Freshly
+pub mod Sizes
+pub mod Looking

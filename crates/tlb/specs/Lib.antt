@@ -1,0 +1,5 @@
+pub mod Entries
+pub mod Table
+pub mod Lookup
+pub mod Micro
+pub mod Moves

@@ -1,0 +1,138 @@
+// One entry: a tag and the pair of pages that it maps.
+ghost use mathlib.Core.Path.{_≡_};
+ghost use Rattle.tlb.specs.Entries.{uncachedOf, matchesOf, pairSizeOf, pageSizeOf, halfOf, translated, halfAnswer, entryAnswer, toldLookup};
+
+// One half of an entry: the even or the odd page.
+#[repr(C)]
+pub struct PageEntry {
+    // The page frame number, in units of 4 KiB whatever the page size.
+    pub pfn: u32,
+    // The cache attribute: only 2 means uncached (table 5-6).
+    pub c: u8,
+    // Dirty, which means that it may be written.
+    pub dirty: bool,
+    // Valid. It has no part in matching (5.4.9).
+    pub valid: bool,
+}
+
+#[repr(C)]
+pub struct Entry {
+    // PageMask, which selects the page size.
+    pub page_mask: u32,
+    // The pair's tag: address bits 39..13 in place, with the mask's bits cleared. It is held in place and not divided by
+    // the pair's size, since a mask may have gaps.
+    pub vpn2: u64,
+    pub asid: u8,
+    // Ignore the ASID. It belongs to the entry: a write sets it where both halves say so (figure 5-10).
+    pub global: bool,
+    // Address bits 63..62.
+    pub region: u8,
+    pub lo0: PageEntry,
+    pub lo1: PageEntry,
+}
+
+// Why a lookup failed.
+pub enum TlbFault {
+    // No entry matched.
+    Refill,
+    // The selected half is not valid.
+    Invalid,
+    // A store to a half that may not be written.
+    Modified,
+}
+
+pub struct Translated {
+    pub addr: u32,
+    pub uncached: bool,
+}
+
+pub enum LookupAnswer {
+    Found(Translated),
+    Fault(TlbFault),
+}
+
+impl PageEntry {
+    pub fn uncached(self) -> bool
+        ensures { λ r. ⌜ r ≡ uncachedOf self ⌝ }
+    {
+        self.c == 2
+    }
+
+    // What a half answers, where `offset` has the bits of an address within the page.
+    fn answer(self, offset: u64, vaddr: u64, store: bool) -> LookupAnswer
+        ensures { λ r. ⌜ r ≡ halfAnswer self offset vaddr store ⌝ }
+    {
+        if !self.valid {
+            return LookupAnswer::Fault(TlbFault::Invalid);
+        }
+        if !store {
+            return self.found(offset, vaddr);
+        }
+        if !self.dirty {
+            return LookupAnswer::Fault(TlbFault::Modified);
+        }
+        self.found(offset, vaddr)
+    }
+
+    // The frame number counts 4 KiB always, so a large page's frame has low bits that give way to the offset.
+    fn found(self, offset: u64, vaddr: u64) -> LookupAnswer
+        ensures { λ r. ⌜ r ≡ translated self offset vaddr ⌝ }
+    {
+        let addr = bits::low32(bits::merge(offset, vaddr, self.pfn as u64 * 4096));
+        LookupAnswer::Found(Translated {
+            addr,
+            uncached: self.c == 2,
+        })
+    }
+}
+
+// The size of the pair of pages that a mask makes.
+pub(crate) fn pair_bytes(mask: u32) -> u64
+    ensures { λ r. ⌜ r ≡ pairSizeOf mask ⌝ }
+{
+    (mask as u64 | 0x1FFF) + 1
+}
+
+// The size of one page of it.
+pub(crate) fn page_bytes(mask: u32) -> u64
+    ensures { λ r. ⌜ r ≡ pageSizeOf mask ⌝ }
+{
+    pair_bytes(mask) / 2
+}
+
+impl Entry {
+    // Does the entry match? The valid bits have no part in it, so an invalid entry is found and gives Invalid, and two of
+    // them clash (5.4.9).
+    pub(crate) fn matches(self, vaddr: u64, asid: u8) -> bool
+        ensures { λ r. ⌜ r ≡ matchesOf self vaddr asid ⌝ }
+    {
+        if bits::field(vaddr, 63, 62) != self.region as u64 {
+            return false;
+        }
+        if bits::merge(self.page_mask as u64, 0, bits::field(vaddr, 39, 13) * 8192) != self.vpn2 {
+            return false;
+        }
+        if self.global {
+            return true;
+        }
+        self.asid == asid
+    }
+
+    // The half that an address selects: by the bit just above the offset within a page.
+    fn half(self, vaddr: u64) -> PageEntry
+        ensures { λ r. ⌜ r ≡ halfOf self vaddr ⌝ }
+    {
+        if vaddr & page_bytes(self.page_mask) == 0 {
+            return self.lo0;
+        }
+        self.lo1
+    }
+
+    // What the one matching entry answers.
+    pub(crate) fn answer(self, vaddr: u64, store: bool) -> LookupAnswer
+        ensures { λ r. ⌜ r ≡ entryAnswer self vaddr store ⌝ }
+    {
+        let half = self.half(vaddr);
+        half.answer(page_bytes(self.page_mask) - 1, vaddr, store)
+    }
+}
