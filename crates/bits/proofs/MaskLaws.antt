@@ -1,11 +1,13 @@
 -- Laws of words merged under a mask.
 use mathlib.Core.Path.{_≡_, refl, ap, ap₂, sym, _∙_}
-use Prim.Native.Nat.{ℕ, zero, suc, _+_, _-_, _*_, _/_, _%_, _^_, _<_, min, max}
-use native.Mathlib.Nat.{pow-suc, min-zero, max-zero, zero-max, min-eq-left, min-le-left, lt-of-le-of-lt}
+use Prim.Native.Nat.{ℕ, zero, suc, _+_, _-_, _*_, _/_, _%_, _^_, _<_, _≤_, min, max}
+use native.Mathlib.Nat.{zero-add, suc-add, mul-one, mul-comm, mul-assoc, div-div-eq-div-mul, pow-suc, min-zero, max-zero, zero-max, min-eq-left, min-le-left, lt-of-le-of-lt}
 use native.Mathlib.Omega.{arith}
 use mathlib.Core.Bool.{Bool, true, false, cond}
 use lib.Dec.{eqb}
-use lib.Bits.{bitAnd, bitOr, and-step, or-step, and-zero-r}
+use lib.Pow.{pow-pos}
+use lib.Arith.{mod-mul}
+use lib.Bits.{bitAnd, bitOr, and-step, or-step, and-zero-r, shifted-half, shifted-even}
 use Rattle.bits.specs.Mask.{mergedBits}
 
 -- one bit: y's under the complement, x's under the mask
@@ -109,3 +111,42 @@ merged-again (suc n) m x x′ y =
     ap₂ (λ (a b : ℕ). a * 2 + b)
     (ap (mergedBits n (m / 2) (x / 2)) (merged-half n m x′ y) ∙ merged-again n (m / 2) (x / 2) (x′ / 2) (y / 2))
     (ap (cond (eqb (m % 2) 1) (x % 2)) (merged-last n m x′ y) ∙ bit-again (eqb (m % 2) 1) (x % 2) (x′ % 2) (y % 2))
+
+-- under no mask stands y
+pub merged-none : (n x y : ℕ) → y < 2 ^ n → mergedBits n 0 x y ≡ y
+unfolding mergedBits
+merged-none zero x y h = omega arith
+merged-none (suc n) x y h =
+    ap (λ (a : ℕ). a * 2 + y % 2) (merged-none n (x / 2) (y / 2) (omega (arith, pow-suc 2 n))) ∙ omega arith
+
+merged-suc : (n m x y : ℕ) → mergedBits (suc n) m x y ≡ mergedBits n (m / 2) (x / 2) (y / 2) * 2 + cond (eqb (m % 2) 1) (x % 2) (y % 2)
+unfolding mergedBits
+merged-suc n m x y = refl
+
+-- a mask of ones, one bit longer: p is 2 to the bits so far
+low-step : (n p x y : ℕ) → 0 < p
+    → mergedBits n (p - 1) (x / 2) (y / 2) ≡ y / 2 / p * p + x / 2 % p
+    → mergedBits (suc n) (p * 2 - 1) x y ≡ y / (p * 2) * (p * 2) + x % (p * 2)
+low-step n p x y h rest =
+    let ones : (p * 2 - 1) / 2 ≡ p - 1 = omega arith in
+    let one : (p * 2 - 1) % 2 ≡ 1 = omega arith in
+    let q : y / 2 / p ≡ y / (p * 2) = div-div-eq-div-mul y 2 p ∙ ap (λ (d : ℕ). y / d) (mul-comm 2 p) in
+    merged-suc n (p * 2 - 1) x y
+    ∙ rw (ones, one, rest, q, mod-mul x {m = p} {c = 2} h (omega arith)) (omega (arith, mul-assoc (y / (p * 2)) p 2))
+
+-- under the lowest j bits stand x's, and above them y's
+pub merged-low : (n j x y : ℕ) → j ≤ n → y < 2 ^ n → mergedBits n (2 ^ j - 1) x y ≡ y / 2 ^ j * 2 ^ j + x % 2 ^ j
+merged-low n zero x y h hy = merged-none n x y hy ∙ omega arith
+merged-low zero (suc j) x y h hy = absurd (omega arith)
+merged-low (suc n) (suc j) x y h hy =
+    rw (pow-suc 2 j)
+    (low-step n (2 ^ j) x y (pow-pos j) (merged-low n j (x / 2) (y / 2) (omega arith) (omega (arith, pow-suc 2 n))))
+
+-- masks and words moved up by j places
+pub merged-shift : (j n m x y : ℕ) → mergedBits (j + n) (m * 2 ^ j) (x * 2 ^ j) (y * 2 ^ j) ≡ mergedBits n m x y * 2 ^ j
+merged-shift zero n m x y = rw (zero-add n, mul-one m, mul-one x, mul-one y) (sym (mul-one (mergedBits n m x y)))
+merged-shift (suc j) n m x y =
+    rw (suc-add j n)
+    (merged-suc (j + n) (m * 2 ^ suc j) (x * 2 ^ suc j) (y * 2 ^ suc j)
+    ∙ rw (shifted-half m j, shifted-half x j, shifted-half y j, shifted-even m j, shifted-even y j, merged-shift j n m x y, pow-suc 2 j)
+    (omega (arith, mul-assoc (mergedBits n m x y) (2 ^ j) 2)))

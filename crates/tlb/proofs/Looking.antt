@@ -1,13 +1,12 @@
 -- A lookup, by what the scan found.
-use mathlib.Core.Path.{_≡_, refl, ap, sym, _∙_}
+use mathlib.Core.Path.{_≡_, refl, ap, sym}
 use mathlib.Core.Bool.{Bool, true, false, cond, false≢true, true≢false}
 use mathlib.Core.List.{List, [], _∷_}
-use Prim.Native.Nat.{ℕ, zero, suc, _+_, _<_, _≤_}
+use Prim.Native.Nat.{ℕ, suc, _+_, _<_, _≤_}
 use native.Mathlib.Omega.{arith}
 use lib.ListN.{length}
 use Rattle.tlb.specs.declared.entries.Entry.{Entry}
 use Rattle.tlb.specs.declared.entries.TlbFault.the-variants.{Refill}
-use Rattle.tlb.specs.declared.entries.LookupAnswer.{LookupAnswer}
 use Rattle.tlb.specs.declared.entries.LookupAnswer.the-variants.{Fault}
 use Rattle.tlb.specs.declared.table.Tlb.{Tlb}
 use Rattle.tlb.specs.declared.table.Hits.{Hits}
@@ -17,7 +16,7 @@ use Rattle.tlb.specs.Micro.{lowest}
 use Rattle.tlb.specs.Lookup.{answerBy, shutDown, tableBy, lookupAnswer, lookupTable}
 
 -- a match lies within the table
-below : (es : List Entry) (v asid i j : ℕ) (js : List ℕ) → matching es v asid i ≡ j ∷ js → j < i + length es
+pub below : (es : List Entry) (v asid i j : ℕ) (js : List ℕ) → matching es v asid i ≡ j ∷ js → j < i + length es
 unfolding matching
 below [] v asid i j js e = let z : _≡_ {A = ℕ} 0 1 = cc in omega arith
 below (x ∷ es) v asid i j js e = go (matchesOf x v asid) e (below es v asid (suc i) j js)

@@ -3,3 +3,4 @@ pub mod Table
 pub mod Lookup
 pub mod Micro
 pub mod Moves
+pub mod Manual

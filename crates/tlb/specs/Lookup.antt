@@ -29,3 +29,6 @@ lookupAnswer t v asid store = cond (t .shutdown) (Fault Refill) (answerBy t (mat
 
 unfoldable pub lookupTable : Tlb → ℕ → ℕ → Tlb
 lookupTable t v asid = cond (t .shutdown) t (tableBy t (matching (t .entries) v asid 0))
+
+abbrev pub isShutdownOf : Tlb → Bool
+isShutdownOf t = t .shutdown

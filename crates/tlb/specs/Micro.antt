@@ -1,6 +1,6 @@
 -- The micro-TLB (4.6.2): two entry numbers, and the slot that is filled next.
-use mathlib.Core.Bool.{Bool, true, false, cond, _&&_, not}
-use mathlib.Core.List.{List, [], _∷_}
+use mathlib.Core.Bool.{Bool, true, false, cond}
+use mathlib.Core.List.{List}
 use Prim.Native.Nat.{ℕ, _-_, _%_}
 use lib.Dec.{ltb}
 use lib.ListN.{getD, set}

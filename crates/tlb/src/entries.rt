@@ -1,6 +1,6 @@
 // One entry: a tag and the pair of pages that it maps.
 ghost use mathlib.Core.Path.{_≡_};
-ghost use Rattle.tlb.specs.Entries.{uncachedOf, matchesOf, pairSizeOf, pageSizeOf, halfOf, translated, halfAnswer, entryAnswer, toldLookup};
+ghost use Rattle.tlb.specs.Entries.{uncachedOf, matchesOf, pairSizeOf, pageSizeOf, halfOf, translated, halfAnswer, entryAnswer};
 
 // One half of an entry: the even or the odd page.
 #[repr(C)]
@@ -79,10 +79,8 @@ impl PageEntry {
         ensures { λ r. ⌜ r ≡ translated self offset vaddr ⌝ }
     {
         let addr = bits::low32(bits::merge(offset, vaddr, self.pfn as u64 * 4096));
-        LookupAnswer::Found(Translated {
-            addr,
-            uncached: self.c == 2,
-        })
+        let uncached = self.uncached();
+        LookupAnswer::Found(Translated { addr, uncached })
     }
 }
 

@@ -3,7 +3,7 @@ ghost use mathlib.Core.Path.{_≡_};
 ghost use Prim.Native.Nat.{_%_, _<_};
 ghost use Rattle.tlb.specs.Entries.{pairSizeOf, pageSizeOf, toldLookup};
 ghost use Rattle.tlb.specs.Table.{freshEntry, freshTable, entryAt, matching, hitsOf};
-ghost use Rattle.tlb.specs.Lookup.{lookupAnswer, lookupTable};
+ghost use Rattle.tlb.specs.Lookup.{lookupAnswer, lookupTable, isShutdownOf};
 use crate::entries::Entry;
 use crate::entries::LookupAnswer;
 use crate::entries::PageEntry;
@@ -54,7 +54,7 @@ impl Tlb {
     }
 
     pub fn is_shutdown(self) -> bool
-        ensures { λ r. ⌜ r ≡ self .shutdown ⌝ }
+        ensures { λ r. ⌜ r ≡ isShutdownOf self ⌝ }
     {
         self.shutdown
     }

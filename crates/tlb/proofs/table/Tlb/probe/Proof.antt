@@ -1,5 +1,4 @@
 -- `Tlb::probe` puts the lowest match into Index.
-use mathlib.Core.Path.{_∙_, ap}
 use borrow.Author.Tests.{lt-ltb, le-ltb}
 use borrow.Author.Needs.{needs}
 use Rattle.tlb.specs.Moves.{probeOf}

@@ -1,7 +1,7 @@
 -- `Tlb::scan` finds the lowest match, and whether there is another.
 use mathlib.Core.Path.{_≡_, _∙_, sym}
 use mathlib.Core.Logic.{⊎-elim}
-use Prim.Native.Nat.{ℕ, _≤_, _-_}
+use Prim.Native.Nat.{_≤_, _-_}
 use native.Mathlib.Omega.{arith}
 use lib.ListN.{length, length-map, drop}
 use borrow.Author.Needs.{needs}
