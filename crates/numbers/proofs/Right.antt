@@ -1,6 +1,7 @@
 -- Every row of the table holds, by computation.
 use mathlib.Core.Path.{_≡_, refl}
 use mathlib.Core.Bool.{true}
+use mathlib.Core.List.{_++_}
 use Rattle.bits.specs.Field.{withFieldOf}
 use Rattle.bits.specs.Mask.{mergedBits}
 use Rattle.cop0.specs.Registers.{among, wide, writeMask}
@@ -11,9 +12,12 @@ use Rattle.cop0.specs.Random.{randomStep, randomSteps, tickRandomByOf}
 use Rattle.cop0.specs.File.{besides, writeAt}
 use Rattle.cop0.specs.Access.{moved32, dmtc0Of}
 use Rattle.cop0.specs.Advance.{moved, advanceTold, advanceOf}
+use Rattle.tlb.specs.Entries.{pageSizeOf}
+use Rattle.tlb.specs.Moves.{pairs}
 use Rattle.numbers.specs.Table.{all}
 use Rattle.numbers.specs.RegisterFile.{registerFile}
+use Rattle.numbers.specs.Translation.{translation}
 
-pub right : all registerFile ≡ true
-unfolding withFieldOf mergedBits among wide writeMask fresh setIpOf edgeOf asked randomStep randomSteps tickRandomByOf besides writeAt moved32 dmtc0Of moved advanceTold advanceOf
+pub right : all (registerFile ++ translation) ≡ true
+unfolding pageSizeOf pairs withFieldOf mergedBits among wide writeMask fresh setIpOf edgeOf asked randomStep randomSteps tickRandomByOf besides writeAt moved32 dmtc0Of moved advanceTold advanceOf
 right = refl

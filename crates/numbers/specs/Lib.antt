@@ -1,2 +1,3 @@
 pub mod Table
 pub mod RegisterFile
+pub mod Translation
