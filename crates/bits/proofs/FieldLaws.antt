@@ -1,10 +1,11 @@
 -- Laws of fields, over the width and the position.
 use mathlib.Core.Path.{_≡_, ap, ap₂, sym, _∙_}
 use Prim.Native.Nat.{ℕ, _+_, _-_, _*_, _/_, _%_, _^_, _<_, _≤_}
-use native.Mathlib.Nat.{one-mul, add-assoc, div-one, mod-lt, mod-one, zero-mod, mod-eq-of-lt, div-eq-of-lt, div-le-self, lt-of-lt-of-le, lt-of-le-of-lt, pow-le-pow-right}
+use native.Mathlib.Nat.{one-mul, mul-assoc, add-mul, add-assoc, div-one, mod-lt, mod-one, zero-mod, mod-eq-of-lt, div-eq-of-lt, div-le-self, lt-of-lt-of-le, lt-of-le-of-lt, pow-le-pow-right}
 use native.Mathlib.Omega.{arith}
 use lib.Arith.{digits-lt}
-use lib.Pow.{pow-pos, pow-add, split, high, low, mod-pow-add, shl-exact, shr-lt, shr-shr, field, mod-mod-pow}
+use lib.Pow.{pow-pos, pow-add, split, high, low, mod-pow-add, shl-lt, shl-exact, shr-lt, shr-shr, field, mod-mod-pow}
+use lib.Bits.{bitOr, or-shifted}
 use borrow.Author.Tests.{le-leb}
 use Rattle.bits.specs.Field.{fieldOf, withFieldOf}
 
@@ -162,3 +163,25 @@ pub bit-lt : (x b : ℕ) → fieldOf x b b < 2
 bit-lt x b =
     let e : b + 1 - b ≡ 1 = omega arith in
     rw e (mod-lt (x / 2 ^ b) (omega arith))
+
+-- two numbers, each at its place, the upper from j places above the lower: or joins them
+pub or-places : (a b j k : ℕ) → b < 2 ^ j → bitOr (a * 2 ^ (j + k)) (b * 2 ^ k) ≡ (a * 2 ^ j + b) * 2 ^ k
+or-places a b j k h =
+    or-shifted a (j + k) (b * 2 ^ k) (shl-lt j k h)
+    ∙ ap (λ (p : ℕ). a * p + b * 2 ^ k) (pow-add 2 j k)
+    ∙ ap (λ (x : ℕ). x + b * 2 ^ k) (sym (mul-assoc a (2 ^ j) (2 ^ k)))
+    ∙ sym (add-mul (a * 2 ^ j) b (2 ^ k))
+
+-- two fields that meet, each at its place, are joined to one
+pub fields-join : (x hi mid lo : ℕ) → lo ≤ mid → mid ≤ hi
+    → bitOr (fieldOf x hi (mid + 1) * 2 ^ (mid + 1)) (fieldOf x mid lo * 2 ^ lo) ≡ fieldOf x hi lo * 2 ^ lo
+fields-join x hi mid lo h₁ h₂ =
+    let j : ℕ = mid + 1 - lo in
+    let up : j + lo ≡ mid + 1 = omega arith in
+    let up′ : lo + j ≡ mid + 1 = omega arith in
+    let all : hi + 1 - (mid + 1) + j ≡ hi + 1 - lo = omega arith in
+    ap (λ (k : ℕ). bitOr (fieldOf x hi (mid + 1) * 2 ^ k) (fieldOf x mid lo * 2 ^ lo)) (sym up)
+    ∙ or-places (fieldOf x hi (mid + 1)) (fieldOf x mid lo) j lo (field-lt x mid lo)
+    ∙ ap (λ (y : ℕ). (y % 2 ^ (hi + 1 - (mid + 1)) * 2 ^ j + x / 2 ^ lo % 2 ^ j) * 2 ^ lo)
+    (ap (λ (k : ℕ). x / 2 ^ k) (sym up′) ∙ sym (shr-shr x lo j))
+    ∙ ap (λ (y : ℕ). y * 2 ^ lo) (sym (mod-pow-add (x / 2 ^ lo) (hi + 1 - (mid + 1)) j) ∙ ap (λ (k : ℕ). x / 2 ^ lo % 2 ^ k) all)

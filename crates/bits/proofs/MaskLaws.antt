@@ -1,13 +1,13 @@
 -- Laws of words merged under a mask.
 use mathlib.Core.Path.{_≡_, refl, ap, ap₂, sym, _∙_}
 use Prim.Native.Nat.{ℕ, zero, suc, _+_, _-_, _*_, _/_, _%_, _^_, _<_, _≤_, min, max}
-use native.Mathlib.Nat.{zero-add, suc-add, mul-one, mul-comm, mul-assoc, div-div-eq-div-mul, pow-suc, min-zero, max-zero, zero-max, min-eq-left, min-le-left, lt-of-le-of-lt}
+use native.Mathlib.Nat.{mod-eq-of-lt, zero-add, suc-add, mul-one, mul-comm, mul-assoc, div-div-eq-div-mul, pow-suc, min-zero, max-zero, zero-max, min-eq-left, min-le-left, lt-of-le-of-lt}
 use native.Mathlib.Omega.{arith}
 use mathlib.Core.Bool.{Bool, true, false, cond}
 use lib.Dec.{eqb}
 use lib.Pow.{pow-pos}
 use lib.Arith.{mod-mul}
-use lib.Bits.{bitAnd, bitOr, and-step, or-step, and-zero-r, shifted-half, shifted-even}
+use lib.Bits.{bitAnd, bitOr, and-step, or-step, and-zero-r, shifted-half, shifted-even, and-mask, and-block}
 use Rattle.bits.specs.Mask.{mergedBits}
 
 -- one bit: y's under the complement, x's under the mask
@@ -150,3 +150,22 @@ merged-shift (suc j) n m x y =
     (merged-suc (j + n) (m * 2 ^ suc j) (x * 2 ^ suc j) (y * 2 ^ suc j)
     ∙ rw (shifted-half m j, shifted-half x j, shifted-half y j, shifted-even m j, shifted-even y j, merged-shift j n m x y, pow-suc 2 j)
     (omega (arith, mul-assoc (mergedBits n m x y) (2 ^ j) 2)))
+
+-- what is left of y when bits are cleared is no more than y
+bit-left : (b : Bool) (y : ℕ) → cond b 0 y ≤ y
+bit-left true y = omega arith
+bit-left false y = omega arith
+
+pub cleared-le : (n m y : ℕ) → mergedBits n m 0 y ≤ y
+unfolding mergedBits
+cleared-le zero m y = omega arith
+cleared-le (suc n) m y = omega (arith, cleared-le n (m / 2) (y / 2), bit-left (eqb (m % 2) 1) (y % 2))
+
+-- a mask of k ones keeps a number below 2 ^ k
+pub under-ones : (k x : ℕ) → x < 2 ^ k → bitAnd x (2 ^ k - 1) ≡ x
+under-ones k x h = and-mask x k ∙ mod-eq-of-lt h
+
+-- a mask keeps a number if it keeps the lowest k bits and those above
+pub under-block : (k a b m n : ℕ) → b < 2 ^ k → n < 2 ^ k → bitAnd a m ≡ a → bitAnd b n ≡ b
+    → bitAnd (a * 2 ^ k + b) (m * 2 ^ k + n) ≡ a * 2 ^ k + b
+under-block k a b m n hb hn ea eb = and-block k a m b n hb hn ∙ ap₂ (λ (x y : ℕ). x * 2 ^ k + y) ea eb

@@ -6,3 +6,4 @@ pub mod Reading
 pub mod Answers
 pub mod Agreement
 pub mod Unique
+pub mod RoundTrip

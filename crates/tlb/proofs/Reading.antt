@@ -1,8 +1,8 @@
 -- The definitions by bits have the manual's reading at each of its page sizes.
 use mathlib.Core.Path.{_≡_, refl, ap, ap₂, sym, _∙_}
-use mathlib.Core.Bool.{_&&_}
+use mathlib.Core.Bool.{Bool, true, false, cond, _&&_}
 use Prim.Native.Nat.{ℕ, zero, suc, _+_, _-_, _*_, _/_, _%_, _^_, _<_, _≤_}
-use native.Mathlib.Nat.{add-mul, zero-mul, one-mul, div-one, add-zero, zero-mod, mul-assoc, mod-lt, mod-eq-of-lt, div-add-mod', div-mul-le-self, lt-div-mul-add, div-eq-of-lt-le}
+use native.Mathlib.Nat.{mul-mod-left, add-mul, zero-mul, one-mul, div-one, add-zero, zero-mod, mul-assoc, mod-lt, mod-eq-of-lt, div-add-mod', div-mul-le-self, lt-div-mul-add, div-eq-of-lt-le}
 use native.Mathlib.Decide.{decLe, decLt}
 use native.Mathlib.Omega.{arith}
 use lib.Arith.{digits-lt}
@@ -15,9 +15,13 @@ use Rattle.bits.specs.Mask.{merged}
 use Rattle.bits.specs.Extension.{low32Of}
 use Rattle.bits.proofs.MaskLaws.{merged-low, merged-shift}
 use Rattle.bits.proofs.Tables.{at-each}
+use Rattle.cop0.specs.declared.registers.Cop0.{Cop0}
+use Rattle.cop0.specs.File.{readOf}
 use Rattle.tlb.specs.declared.entries.Entry.{Entry}
-use Rattle.tlb.specs.Entries.{vpn2Of, matchesOf, pageSizeOf, halfOf, physicalOf}
-use Rattle.tlb.specs.Manual.{sizeAt, maskAt, matchesAt, halfAt, addressAt}
+use Rattle.tlb.specs.declared.entries.PageEntry.{PageEntry}
+use Rattle.tlb.specs.Entries.{vpn2Of, matchesOf, pageSizeOf, halfOf, physicalOf, halfAnswer, entryAnswer}
+use Rattle.tlb.specs.Moves.{EntryHi, maskOf, entryOf}
+use Rattle.tlb.specs.Manual.{sizeAt, maskAt, matchesAt, halfAt, addressAt, pageAnswerAt}
 
 -- the page sizes of table 5-7
 pub size-is : (k : ℕ) → k ≤ 6 → pageSizeOf (maskAt k) ≡ sizeAt k
@@ -106,3 +110,28 @@ address-is k pfn v h hp =
     ap (λ (s : ℕ). low32Of (merged (s - 1) v (pfn * 4096))) (size-is k h)
     ∙ ap low32Of (merged-low 64 j v (pfn * 4096) (omega arith) (omega arith))
     ∙ mod-eq-of-lt (omega (arith, word, digits-lt (shr-lt (32 - j) j small) (mod-lt v (pow-pos j))))
+
+page-is : (k : ℕ) → k ≤ 6 → (p : PageEntry) → p .pfn < 2 ^ 20 → (v : ℕ) (store : Bool)
+    → halfAnswer p (pageSizeOf (maskAt k) - 1) v store ≡ pageAnswerAt k p v store
+unfolding halfAnswer
+page-is k h p hp v store = rw (address-is k (p .pfn) v h hp)
+
+-- what a matching entry answers is what the page that the address lies in answers
+pub answer-is : (k : ℕ) → k ≤ 6 → (e : Entry) → e .«page_mask» ≡ maskAt k → e .lo0 .pfn < 2 ^ 20 → e .lo1 .pfn < 2 ^ 20
+    → (v : ℕ) (store : Bool) → entryAnswer e v store ≡ pageAnswerAt k (halfAt k e v) v store
+unfolding entryAnswer
+answer-is k h e m h₀ h₁ v store =
+    rw (half-is k h e m v, m) (page-is k h (halfAt k e v) (either (ltb (v % (2 * sizeAt k)) (sizeAt k))) v store)
+  where
+    either : (b : Bool) → cond b (e .lo0) (e .lo1) .pfn < 2 ^ 20
+    either true = h₀
+    either false = h₁
+
+-- a write makes such entries: the base is a multiple of the pair, and frame numbers have 20 bits
+pub written-base : (k : ℕ) → k ≤ 6 → (c : Cop0) → maskOf c ≡ maskAt k → entryOf c .vpn2 % (2 * sizeAt k) ≡ 0
+unfolding entryOf
+written-base k h c m = rw (m, vpn2-is k (readOf c EntryHi) h, two-pages k) (mul-mod-left _ (2 * sizeAt k))
+
+pub written-frames : (c : Cop0) → (entryOf c .lo0 .pfn < 2 ^ 20) × (entryOf c .lo1 .pfn < 2 ^ 20)
+unfolding entryOf
+written-frames c = (omega arith, omega arith)

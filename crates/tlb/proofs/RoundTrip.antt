@@ -1,0 +1,178 @@
+-- An entry that is written and read again gives back the written registers, each with the bits that an entry keeps of it.
+use mathlib.Core.Path.{_≡_, refl, ap, _∙_}
+use mathlib.Core.Bool.{Bool, true, false, cond}
+use mathlib.Core.List.{List, [], _∷_}
+use Prim.Native.Nat.{ℕ, zero, suc, _+_, _-_, _*_, _/_, _%_, _^_, _<_}
+use native.Mathlib.Nat.{add-assoc, lt-of-le-of-lt}
+use native.Mathlib.Decide.{ℕ-discrete}
+use native.Mathlib.Omega.{arith}
+use lib.Dec.{eqb}
+use lib.Bits.{bitOr, or-shifted, and-high}
+use lib.ListN.{length, length-set}
+use lib.Seq.{getD-set-same, getD-set-other}
+use borrow.Author.Tests.{eq-eqb, ne-eqb}
+use Rattle.bits.specs.Field.{fieldOf}
+use Rattle.bits.specs.Mask.{under, mergedBits}
+use Rattle.bits.proofs.FieldLaws.{field-lt, bit-lt, or-places, fields-join}
+use Rattle.bits.proofs.MaskLaws.{merged-shift, cleared-le, under-ones, under-block}
+use Rattle.cop0.specs.declared.registers.Cop0.{Cop0}
+use Rattle.cop0.specs.Registers.{among, unused, archMask}
+use Rattle.cop0.specs.Record.{reg}
+use Rattle.cop0.specs.File.{readAt, readOf, setHardwareOf}
+use Rattle.tlb.specs.declared.entries.Entry.{Entry}
+use Rattle.tlb.specs.declared.table.Tlb.{Tlb}
+use Rattle.tlb.specs.Entries.{flag, vpn2Of}
+use Rattle.tlb.specs.Table.{withVpn2, entryAt}
+use Rattle.tlb.specs.Moves.{EntryLo0, EntryLo1, PageMask, EntryHi, pairs, canonicalOf, pageOf, globalOf, maskOf, entryOf, writtenOf, loOf, hiOf, readEntryOf}
+use Rattle.tlb.proofs.Sizes.{pairs-small}
+
+-- PageMask has the bits of a canonical mask
+mask-kept : (x : ℕ) → under (archMask PageMask) (canonicalOf x) ≡ canonicalOf x
+unfolding archMask
+mask-kept x = and-high (canonicalOf x) 12 13 ∙ omega (arith, pairs-small 6 (x / 2 ^ 13) (omega arith))
+
+-- R, VPN2 and ASID at their places: or adds them, and EntryHi has these bits
+module _ (r w a : ℕ) (hr : r < 2 ^ 2) (hw : w < 2 ^ 27) (ha : a < 2 ^ 8) where
+  three-joined : bitOr (bitOr (r % 4 * 2 ^ 62) (w * 2 ^ 13)) a ≡ r * 2 ^ 62 + w * 2 ^ 13 + a
+  three-joined =
+      let e : r % 4 ≡ r = omega arith in
+      rw (e, or-places r w 49 13 (omega arith), or-shifted (r * 2 ^ 49 + w) 13 a (omega arith)) (omega arith)
+
+  three-kept : under (archMask EntryHi) (r * 2 ^ 62 + w * 2 ^ 13 + a) ≡ r * 2 ^ 62 + w * 2 ^ 13 + a
+  unfolding archMask
+  three-kept =
+      rw (add-assoc (r * 2 ^ 62) (w * 2 ^ 13) a)
+      (under-block 62 r (w * 2 ^ 13 + a) (2 ^ 2 - 1) ((2 ^ 27 - 1) * 2 ^ 13 + (2 ^ 8 - 1)) (omega arith) (omega arith)
+      (under-ones 2 r hr)
+      (under-block 13 w a (2 ^ 27 - 1) (2 ^ 8 - 1) (omega arith) (omega arith) (under-ones 27 w hw) (under-ones 8 a ha)))
+
+-- the same of EntryHi v under PageMask x: the mask leaves of VPN2 a number below 2^27, at bit 13
+module _ (x v : ℕ) where
+  abbrev left : ℕ
+  left = mergedBits 51 (pairs 6 (x / 2 ^ 13)) 0 (fieldOf v 39 13)
+
+  left-at : vpn2Of (canonicalOf x) v ≡ left * 2 ^ 13
+  left-at = merged-shift 13 51 (pairs 6 (x / 2 ^ 13)) 0 (fieldOf v 39 13)
+
+  left-lt : left < 2 ^ 27
+  left-lt = lt-of-le-of-lt (cleared-le 51 (pairs 6 (x / 2 ^ 13)) (fieldOf v 39 13)) (field-lt v 39 13)
+
+  abbrev hi : ℕ
+  hi = fieldOf v 63 62 * 2 ^ 62 + vpn2Of (canonicalOf x) v + fieldOf v 7 0
+
+  hi-joined : bitOr (bitOr (fieldOf v 63 62 % 4 * 2 ^ 62) (vpn2Of (canonicalOf x) v)) (fieldOf v 7 0) ≡ hi
+  hi-joined = rw left-at (three-joined (fieldOf v 63 62) left (fieldOf v 7 0) (field-lt v 63 62) left-lt (field-lt v 7 0))
+
+  hi-kept : under (archMask EntryHi) hi ≡ hi
+  hi-kept = rw left-at (three-kept (fieldOf v 63 62) left (fieldOf v 7 0) (field-lt v 63 62) left-lt (field-lt v 7 0))
+
+-- a flag as the bit that it came from
+flag-bit : (x : ℕ) → x < 2 → flag (eqb x 1) ≡ x
+flag-bit zero h = refl
+flag-bit (suc zero) h = refl
+flag-bit (suc (suc x)) h = absurd (omega arith)
+
+flag-lt : (b : Bool) → flag b < 2
+flag-lt true = omega arith
+flag-lt false = omega arith
+
+-- PFN, C, D and V meet, and or joins them to the field 25..1; G is the bit below
+lo-joined : (lo : ℕ) (g : Bool) → loOf (pageOf lo) g ≡ fieldOf lo 25 1 * 2 + flag g
+lo-joined lo g =
+    rw (flag-bit (fieldOf lo 2 2) (bit-lt lo 2), flag-bit (fieldOf lo 1 1) (bit-lt lo 1))
+    (rw (fields-join lo 25 5 3 (omega arith) (omega arith), fields-join lo 25 2 2 (omega arith) (omega arith))
+    (rw (fields-join lo 25 1 1 (omega arith) (omega arith)) (or-shifted (fieldOf lo 25 1) 1 (flag g) (flag-lt g))))
+
+-- and EntryLo0 and EntryLo1 have these bits
+lo-kept : (lo : ℕ) (g : Bool) → under (2 ^ 30 - 1) (fieldOf lo 25 1 * 2 + flag g) ≡ fieldOf lo 25 1 * 2 + flag g
+lo-kept lo g = under-ones 30 (fieldOf lo 25 1 * 2 + flag g) (omega (arith, field-lt lo 25 1, flag-lt g))
+
+-- registers set by hardware one after another, the last of them first
+abbrev after : Cop0 → List (ℕ × ℕ) → Cop0
+after c [] = c
+after c ((m, v) ∷ vs) = setHardwareOf (after c vs) m v
+
+-- what register n then holds, if it held x before
+abbrev held : ℕ → ℕ → List (ℕ × ℕ) → ℕ
+held x n [] = x
+held x n ((m, v) ∷ vs) = cond (eqb n (m % 32)) (under (archMask n) v) (held x n vs)
+
+module _ (c : Cop0) where
+  -- they stay as many
+  same-length : (vs : List (ℕ × ℕ)) → length (after c vs .regs) ≡ length (c .regs)
+  unfolding setHardwareOf
+  same-length [] = refl
+  same-length ((m, v) ∷ vs) = length-set (after c vs .regs) (m % 32) (under (archMask (m % 32)) v) ∙ same-length vs
+
+  -- and each holds what it was set to last
+  last-set : (n : ℕ) (vs : List (ℕ × ℕ)) → n < length (c .regs) → reg (after c vs) n ≡ held (reg c n) n vs
+  unfolding setHardwareOf
+  last-set n [] h = refl
+  last-set n ((m, v) ∷ vs) h = go (ℕ-discrete n (m % 32)) (last-set n vs h)
+    where
+      go : Dec (n ≡ m % 32) → reg (after c vs) n ≡ held (reg c n) n vs
+          → reg (setHardwareOf (after c vs) m v) n ≡ cond (eqb n (m % 32)) (under (archMask n) v) (held (reg c n) n vs)
+      go (yes p) rest =
+          rw (eq-eqb n (m % 32) p, ← p)
+          (getD-set-same (after c vs .regs) n (under (archMask n) v) 0 (omega (arith, same-length vs)))
+      go (no p) rest =
+          rw (ne-eqb n (m % 32) p) (getD-set-other (after c vs .regs) (m % 32) n (under (archMask (m % 32)) v) 0 p ∙ rest)
+
+-- the registers that an entry is read into
+abbrev registersOf : Entry → List (ℕ × ℕ)
+registersOf e =
+    (EntryLo1, loOf (e .lo1) (e .global))
+    ∷ (EntryLo0, loOf (e .lo0) (e .global))
+    ∷ (EntryHi, hiOf e)
+    ∷ (PageMask, e .«page_mask»)
+    ∷ []
+
+-- EntryLo0 is the even half's, EntryLo1 the odd one's
+abbrev pub entryLo : Bool → ℕ
+entryLo false = EntryLo0
+entryLo true = EntryLo1
+
+-- r: entry i of a table of 32, written from the registers c, is read into registers that were d
+module _ (t : Tlb) (i : ℕ) (c d : Cop0) (entries : length (t .entries) ≡ 32) (file : length (d .regs) ≡ 32) where
+  abbrev pub r : Cop0
+  r = readEntryOf (writtenOf t i c) i d
+
+  -- the entry that is read is the one that was written
+  same-entry : entryAt (writtenOf t i c) (i % 32) ≡ entryOf c
+  unfolding writtenOf
+  same-entry = getD-set-same (t .entries) (i % 32) (entryOf c) (withVpn2 0) (omega arith)
+
+  r-is : r ≡ after d (registersOf (entryOf c))
+  unfolding readEntryOf
+  r-is = ap (λ (e : Entry). after d (registersOf e)) same-entry
+
+  -- a register that is neither unused nor Count nor Config, set to x, which is v, reads v if it has those bits
+  reads : (n : ℕ) {x v : ℕ} → n < 32 → ((f : Cop0) → readAt f n ≡ under (archMask n) (reg f n))
+      → held (reg d n) n (registersOf (entryOf c)) ≡ under (archMask n) x → x ≡ v → under (archMask n) v ≡ v → readAt r n ≡ v
+  reads n h plain e same kept =
+      let rs : List (ℕ × ℕ) = registersOf (entryOf c) in
+      rw r-is (plain (after d rs) ∙ rw (last-set d n rs (omega arith), e, same, kept) kept)
+
+  -- the canonical mask
+  pub mask-back : readOf r PageMask ≡ canonicalOf (readOf c PageMask)
+  unfolding readAt unused among entryOf
+  mask-back = reads PageMask (omega arith) (λ f. refl) refl refl (mask-kept (readOf c PageMask))
+
+  -- R, VPN2 outside the mask, ASID
+  pub hi-back : readOf r EntryHi
+      ≡ fieldOf (readOf c EntryHi) 63 62 * 2 ^ 62 + vpn2Of (maskOf c) (readOf c EntryHi) + fieldOf (readOf c EntryHi) 7 0
+  unfolding readAt unused among entryOf
+  hi-back =
+      let x : ℕ = readOf c PageMask in
+      let v : ℕ = readOf c EntryHi in
+      reads EntryHi (omega arith) (λ f. refl) refl (hi-joined x v) (hi-kept x v)
+
+  -- G of both halves
+  abbrev pub g : Bool
+  g = globalOf (readOf c EntryLo0) (readOf c EntryLo1)
+
+  -- PFN, C, D and V (bits 25..1), and that G; of the even half, or of the odd one
+  pub lo-back : (odd : Bool) → readOf r (entryLo odd) ≡ fieldOf (readOf c (entryLo odd)) 25 1 * 2 + flag g
+  unfolding readAt unused among entryOf archMask
+  lo-back false = reads EntryLo0 (omega arith) (λ f. refl) refl (lo-joined (readOf c EntryLo0) g) (lo-kept (readOf c EntryLo0) g)
+  lo-back true = reads EntryLo1 (omega arith) (λ f. refl) refl (lo-joined (readOf c EntryLo1) g) (lo-kept (readOf c EntryLo1) g)
