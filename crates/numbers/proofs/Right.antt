@@ -12,12 +12,14 @@ use Rattle.cop0.specs.Random.{randomStep, randomSteps, tickRandomByOf}
 use Rattle.cop0.specs.File.{besides, writeAt}
 use Rattle.cop0.specs.Access.{moved32, dmtc0Of}
 use Rattle.cop0.specs.Advance.{moved, advanceTold, advanceOf}
+use Rattle.addr.specs.Segments.{inside, segmentOf}
 use Rattle.tlb.specs.Entries.{pageSizeOf}
 use Rattle.tlb.specs.Moves.{pairs}
 use Rattle.numbers.specs.Table.{all}
 use Rattle.numbers.specs.RegisterFile.{registerFile}
 use Rattle.numbers.specs.Translation.{translation}
+use Rattle.numbers.specs.Segments.{segments}
 
-pub right : all (registerFile ++ translation) ≡ true
-unfolding pageSizeOf pairs withFieldOf mergedBits among wide writeMask fresh setIpOf edgeOf asked randomStep randomSteps tickRandomByOf besides writeAt moved32 dmtc0Of moved advanceTold advanceOf
+pub right : all (registerFile ++ translation ++ segments) ≡ true
+unfolding segmentOf inside pageSizeOf pairs withFieldOf mergedBits among wide writeMask fresh setIpOf edgeOf asked randomStep randomSteps tickRandomByOf besides writeAt moved32 dmtc0Of moved advanceTold advanceOf
 right = refl

@@ -1,3 +1,4 @@
 pub mod Table
 pub mod RegisterFile
 pub mod Translation
+pub mod Segments

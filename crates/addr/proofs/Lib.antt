@@ -1,0 +1,6 @@
+pub mod Answers
+pub mod AccessLaws
+pub mod SegmentLaws
+pub mod TranslateLaws
+pub mod Limits
+pub mod Unique

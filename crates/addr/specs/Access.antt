@@ -1,0 +1,26 @@
+-- The access that Status asks for. Its fields (UM §6.3.5): KX 7, SX 6, UX 5, KSU 4..3, ERL 2, EXL 1.
+use mathlib.Core.Bool.{false, _||_, cond}
+use mathlib.Core.List.{[], _∷_}
+use Prim.Native.Nat.{ℕ}
+use lib.Dec.{eqb}
+use Rattle.bits.specs.Field.{fieldOf}
+use Rattle.bits.specs.Told.{Told, answered, refused}
+use Rattle.addr.specs.declared.access.Mode.{Mode}
+use Rattle.addr.specs.declared.access.Mode.the-variants.{Kernel, Supervisor, User}
+use Rattle.addr.specs.declared.access.Access.{Access}
+use Rattle.addr.specs.Answers.{modeNumber}
+
+abbrev pub kernelAccess : Access
+kernelAccess = record { mode = Kernel; wide = false; erl = false }
+
+-- an access in a mode, with the bit of Status that is its width
+abbrev pub inMode : Mode → ℕ → ℕ → Told
+inMode m width s = answered (modeNumber m ∷ fieldOf s width width ∷ fieldOf s 2 2 ∷ [])
+
+-- kernel when EXL is 1 or KSU is 0; KSU 1 supervisor, 2 user; refusal 4: KSU 3 with EXL 0
+unfoldable pub accessOf : ℕ → Told
+accessOf s =
+    cond (eqb (fieldOf s 1 1) 1 || eqb (fieldOf s 4 3) 0) (inMode Kernel 7 s)
+    (cond (eqb (fieldOf s 4 3) 1) (inMode Supervisor 6 s)
+    (cond (eqb (fieldOf s 4 3) 2) (inMode User 5 s)
+    (refused 4)))

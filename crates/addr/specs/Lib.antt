@@ -1,0 +1,4 @@
+pub mod Answers
+pub mod Access
+pub mod Segments
+pub mod Translate

@@ -1,0 +1,48 @@
+-- What a translation answers, and the table that it leaves.
+use mathlib.Core.Path.{_≡_}
+use mathlib.Core.Bool.{Bool, cond}
+use Prim.Native.Nat.{ℕ}
+use Rattle.tlb.specs.declared.table.Tlb.{Tlb}
+use Rattle.tlb.specs.declared.entries.TlbFault.{TlbFault}
+use Rattle.tlb.specs.declared.entries.LookupAnswer.{LookupAnswer}
+use Rattle.tlb.specs.declared.entries.LookupAnswer.the-variants.{Found, Fault}
+use Rattle.tlb.specs.Lookup.{lookupAnswer, lookupTable}
+use Rattle.addr.specs.declared.access.Access.{Access}
+use Rattle.addr.specs.declared.segments.Cached.{Cached}
+use Rattle.addr.specs.declared.segments.Cached.the-variants.{Yes, No}
+use Rattle.addr.specs.declared.segments.Segment.{Segment}
+use Rattle.addr.specs.declared.segments.Segment.the-variants.{Direct, Mapped, Invalid}
+use Rattle.addr.specs.declared.translate.TranslateError.the-variants as error
+use Rattle.addr.specs.declared.translate.TranslateAnswer.{TranslateAnswer}
+use Rattle.addr.specs.declared.translate.TranslateAnswer.the-variants.{At, Failed}
+use Rattle.addr.specs.Segments.{segmentOf}
+
+-- r is the fault that an answer carries, if it carries one
+abbrev pub Carries : LookupAnswer → TlbFault → Type 0
+Carries a r = (f : TlbFault) → a ≡ Fault f → r ≡ f
+
+abbrev pub at : ℕ → Cached → TranslateAnswer
+at p c = At (record { addr = p; cached = c })
+
+-- the lookup's answer, as a translation's
+abbrev pub mappedAnswer : LookupAnswer → TranslateAnswer
+mappedAnswer (Found t) = at (t .addr) (cond (t .uncached) No Yes)
+mappedAnswer (Fault f) = Failed (error.Tlb f)
+
+-- by the segment, with the lookup's answer for a mapped one
+abbrev pub answerBy : Segment → LookupAnswer → TranslateAnswer
+answerBy (Direct p c) l = at p c
+answerBy Mapped l = mappedAnswer l
+answerBy Invalid l = Failed error.Address
+
+unfoldable pub translateAnswer : Tlb → ℕ → ℕ → Bool → Access → TranslateAnswer
+translateAnswer t v asid store a = answerBy (segmentOf a v) (lookupAnswer t v asid store)
+
+-- the table: as the lookup leaves it where it was asked, else untouched
+abbrev pub tableBy : {A : Type 0} → Segment → A → A → A
+tableBy (Direct p c) untouched looked = untouched
+tableBy Mapped untouched looked = looked
+tableBy Invalid untouched looked = untouched
+
+unfoldable pub translateTable : Tlb → ℕ → ℕ → Access → Tlb
+translateTable t v asid a = tableBy (segmentOf a v) t (lookupTable t v asid)
