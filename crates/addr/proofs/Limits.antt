@@ -10,9 +10,9 @@ use Rattle.addr.specs.declared.access.Mode.the-variants.{Kernel, Supervi
 use Rattle.addr.specs.declared.access.Access.{Access}
 use Rattle.addr.specs.declared.segments.Cached.the-variants.{Yes, No}
 use Rattle.addr.specs.declared.segments.Segment.{Segment}
-use Rattle.addr.specs.declared.segments.Segment.the-variants.{Mapped, Invalid}
+use Rattle.addr.specs.declared.segments.Segment.the-variants.{Direct, Mapped, Invalid}
 use Rattle.addr.specs.Answers.{toldSegment}
-use Rattle.addr.specs.Segments.{direct, how, Row, row, inside, segmentIn, rowsOf, erlRow, tableOf}
+use Rattle.addr.specs.Segments.{direct, how, Row, row, inside, segmentIn, rowsOf, erlRow, tableOf, segmentOf}
 
 abbrev each : {A : Type 0} → (A → Bool) → List A → Bool
 each f [] = true
@@ -82,3 +82,18 @@ erl-narrow = refl
 pub erl-wide : each (λ (m : Mode). ends (tableOf (access m true true)) erlRow && alike (segmentIn (tableOf (access m true true)) (erlRow .last + 1)) Mapped) modes ≡ true
 unfolding inside
 erl-wide = refl
+
+-- P4: the top of sseg
+pub p4 : (segmentOf (access Supervisor false false) 0xFFFF_FFFF_DFFF_FFFF ≡ Mapped) × (segmentOf (access Supervisor false false) 0xFFFF_FFFF_E000_0000 ≡ Invalid)
+unfolding segmentOf inside
+p4 = (refl, refl)
+
+-- P5: the top of xkseg
+pub p5 : (segmentOf (access Kernel true false) 0xC000_00FF_7FFF_FFFF ≡ Mapped) × (segmentOf (access Kernel true false) 0xC000_00FF_8000_0000 ≡ Invalid)
+unfolding segmentOf inside
+p5 = (refl, refl)
+
+-- P6: an uncached window of xkphys, and the address past its top
+pub p6 : (segmentOf (access Kernel true false) 0x9000_0000_1234_5678 ≡ Direct 0x1234_5678 No) × (segmentOf (access Kernel true false) 0x9000_0001_0000_0000 ≡ Invalid)
+unfolding segmentOf inside
+p6 = (refl, refl)
