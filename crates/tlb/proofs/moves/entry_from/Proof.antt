@@ -55,7 +55,13 @@ cast-t16 c = search needs
 returns : tie.Need-returns
 unfolding entryOf
 returns c =
-    rw (c .field3 .ensures, c .before .field2 .ensures, c .before .before .merge .ensures, c .before .before .before .field .ensures, c .before .before .before .before .global-from .ensures, c .before .before .before .before .before .page-from2 .ensures, c .before .before .before .before .before .before .page-from .ensures, c .before .before .before .before .before .before .before .canonical-page-mask .ensures, c .before .before .before .before .before .before .before .before .read4 .ensures, c .before .before .before .before .before .before .before .before .before .read3 .ensures, c .before .before .before .before .before .before .before .before .before .before .read2 .ensures, c .before .before .before .before .before .before .before .before .before .before .before .read .ensures)
+    let f = c .before .before .before in
+    let g = f .before in
+    let m = g .before .before .before in
+    let r = m .before .before .before in
+    rw (c .field3 .ensures, c .before .field2 .ensures, c .before .before .merge .ensures, f .field .ensures)
+    (rw (g .global-from .ensures, g .before .page-from2 .ensures, g .before .before .page-from .ensures, m .canonical-page-mask .ensures)
+    (rw (m .before .read4 .ensures, m .before .before .read3 .ensures, r .read2 .ensures, r .before .read .ensures)))
 
 pub entry-from-spec : {M : Type 1} → statement M
 entry-from-spec =

@@ -1,10 +1,6 @@
 -- `Entry::matches` compares region, VPN2 and ASID in turn.
-use mathlib.Core.Path.{_∙_, ap}
-use Prim.Native.Nat.{ℕ, _*_}
-use borrow.Author.Tests.{eq-eqb, ne-eqb}
 use borrow.Author.Needs.{needs}
-use Rattle.bits.specs.Mask.{cleared}
-use Rattle.tlb.specs.Entries.{matchesOf}
+use Rattle.tlb.proofs.Matching.{other-region, other-tag, is-global, by-asid}
 use Rattle.tlb.proofs.entries.Entry.matches.Statement.{statement}
 use Rattle.tlb.proofs.entries.Entry.matches.Tie as tie
 
@@ -15,8 +11,7 @@ cast-if1 : tie.Need-cast-if1
 cast-if1 c = search needs
 
 returns : tie.Need-returns
-unfolding matchesOf
-returns c = rw (← c .before .before .field .ensures, ne-eqb _ _ (c .if1 .taken))
+returns c = other-region _ _ _ _ (c .before .before .field .ensures) (c .if1 .taken)
 
 cast-merge : tie.Need-cast-merge
 cast-merge c = search needs
@@ -31,22 +26,24 @@ merge-requires : tie.Need-merge-requires
 merge-requires c κs = search needs
 
 returns-2 : tie.Need-returns-2
-unfolding matchesOf
 returns-2 c =
-    let tag = c .before .before .merge .ensures ∙ ap (λ (x : ℕ). cleared (c .before .before .before .before .before .before .before .before .args .self .«page_mask») (x * 8192)) (c .before .before .before .field2 .ensures) in
-    rw (← c .before .before .before .before .before .before .before .field .ensures, eq-eqb _ _ (c .before .before .before .before .before .if1 .left), ← tag, ne-eqb _ _ (c .if2 .taken))
+    let m = c .before .before in
+    let i = m .before .before .before in
+    other-tag _ _ _ _ (i .before .before .field .ensures) (i .if1 .left) _ _ (m .before .field2 .ensures) (m .merge .ensures) (c .if2 .taken)
 
 returns-3 : tie.Need-returns-3
-unfolding matchesOf
 returns-3 c =
-    let tag = c .before .before .before .merge .ensures ∙ ap (λ (x : ℕ). cleared (c .before .before .before .before .before .before .before .before .before .args .self .«page_mask») (x * 8192)) (c .before .before .before .before .field2 .ensures) in
-    rw (← c .before .before .before .before .before .before .before .before .field .ensures, eq-eqb _ _ (c .before .before .before .before .before .before .if1 .left), ← tag, eq-eqb _ _ (c .before .if2 .left), c .if3 .taken)
+    let m = c .before .before .before in
+    let i = m .before .before .before in
+    is-global _ _ _ _ (i .before .before .field .ensures) (i .if1 .left) _ _ (m .before .field2 .ensures) (m .merge .ensures)
+    (c .before .if2 .left) (c .if3 .taken)
 
 returns-4 : tie.Need-returns-4
-unfolding matchesOf
 returns-4 c =
-    let tag = c .before .before .before .before .merge .ensures ∙ ap (λ (x : ℕ). cleared (c .before .before .before .before .before .before .before .before .before .before .args .self .«page_mask») (x * 8192)) (c .before .before .before .before .before .field2 .ensures) in
-    rw (← c .before .before .before .before .before .before .before .before .before .field .ensures, eq-eqb _ _ (c .before .before .before .before .before .before .before .if1 .left), ← tag, eq-eqb _ _ (c .before .before .if2 .left), c .before .if3 .left)
+    let m = c .before .before .before .before in
+    let i = m .before .before .before in
+    by-asid _ _ _ _ (i .before .before .field .ensures) (i .if1 .left) _ _ (m .before .field2 .ensures) (m .merge .ensures)
+    (c .before .before .if2 .left) (c .before .if3 .left)
 
 pub matches-spec : {M : Type 1} → statement M
 matches-spec =

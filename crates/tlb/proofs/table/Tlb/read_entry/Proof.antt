@@ -34,7 +34,11 @@ set-hardware-requires-4 c κs = search needs
 returns : tie.Need-returns
 unfolding readEntryOf
 returns c =
-    rw (c .set-hardware4 .ensures, c .before .lo-from2 .ensures, c .before .before .set-hardware3 .ensures, c .before .before .before .lo-from .ensures, c .before .before .before .before .set-hardware2 .ensures, c .before .before .before .before .before .hi-from .ensures, c .before .before .before .before .before .before .set-hardware .ensures, c .before .before .before .before .before .before .before .before .before .before .entry .ensures)
+    let o = c .before .before in
+    let h = o .before .before in
+    let p = h .before .before in
+    rw (c .set-hardware4 .ensures, c .before .lo-from2 .ensures, o .set-hardware3 .ensures, o .before .lo-from .ensures)
+    (rw (h .set-hardware2 .ensures, h .before .hi-from .ensures, p .set-hardware .ensures, p .before .before .before .before .entry .ensures))
 
 pub read-entry-spec : {M : Type 1} → statement M
 read-entry-spec =
