@@ -24,7 +24,8 @@ returns-2 : tie.Need-returns-2
 returns-2 c =
     let r₂ = c .before in
     let r₁ = r₂ .before .before in
-    rw (← r₁ .before .within .ensures, r₁ .if1 .left, ← r₂ .before .within2 .ensures, r₂ .if2 .taken) (c .direct2 .ensures)
+    rw (← r₁ .before .within .ensures, r₁ .if1 .left, ← r₂ .before .within2 .ensures, r₂ .if2 .taken)
+    (c .direct2 .ensures)
 
 within-requires-3 : tie.Need-within-requires-3
 within-requires-3 c κs = search needs
@@ -33,13 +34,27 @@ returns-3 : tie.Need-returns-3
 returns-3 c =
     let r₂ = c .before .before in
     let r₁ = r₂ .before .before in
-    rw (← r₁ .before .within .ensures, r₁ .if1 .left, ← r₂ .before .within2 .ensures, r₂ .if2 .left, ← c .before .within3 .ensures, c .if3 .taken)
+    rw (
+      ← r₁ .before .within .ensures,
+      r₁ .if1 .left,
+      ← r₂ .before .within2 .ensures,
+      r₂ .if2 .left,
+      ← c .before .within3 .ensures,
+      c .if3 .taken,
+    )
 
 returns-4 : tie.Need-returns-4
 returns-4 c =
     let r₂ = c .before .before in
     let r₁ = r₂ .before .before in
-    rw (← r₁ .before .within .ensures, r₁ .if1 .left, ← r₂ .before .within2 .ensures, r₂ .if2 .left, ← c .before .within3 .ensures, c .if3 .left)
+    rw (
+      ← r₁ .before .within .ensures,
+      r₁ .if1 .left,
+      ← r₂ .before .within2 .ensures,
+      r₂ .if2 .left,
+      ← c .before .within3 .ensures,
+      c .if3 .left,
+    )
 
 pub compat-kernel-segment-spec : {M : Type 1} → statement M
 compat-kernel-segment-spec =

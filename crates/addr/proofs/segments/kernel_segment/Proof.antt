@@ -15,7 +15,13 @@ within-requires-2 c κs = search needs
 returns-2 : tie.Need-returns-2
 returns-2 c =
     let r₁ = c .before .before in
-    rw (r₁ .before .before .if1 .taken, ← r₁ .before .within .ensures, r₁ .if2 .left, ← c .before .within2 .ensures, c .if3 .taken)
+    rw (
+      r₁ .before .before .if1 .taken,
+      ← r₁ .before .within .ensures,
+      r₁ .if2 .left,
+      ← c .before .within2 .ensures,
+      c .if3 .taken,
+    )
 
 within-requires-3 : tie.Need-within-requires-3
 within-requires-3 c κs = search needs
@@ -28,7 +34,15 @@ returns-3 c =
     let r₃ = c .before in
     let r₂ = r₃ .before .before in
     let r₁ = r₂ .before .before in
-    rw (r₁ .before .before .if1 .taken, ← r₁ .before .within .ensures, r₁ .if2 .left, ← r₂ .before .within2 .ensures, r₂ .if3 .left, ← r₃ .before .within3 .ensures, r₃ .if4 .taken)
+    rw (
+      r₁ .before .before .if1 .taken,
+      ← r₁ .before .within .ensures,
+      r₁ .if2 .left,
+      ← r₂ .before .within2 .ensures,
+      r₂ .if3 .left,
+      ← r₃ .before .within3 .ensures,
+      r₃ .if4 .taken,
+    )
     (c .xkphys .ensures)
 
 within-requires-4 : tie.Need-within-requires-4
@@ -39,7 +53,17 @@ returns-4 c =
     let r₃ = c .before .before in
     let r₂ = r₃ .before .before in
     let r₁ = r₂ .before .before in
-    rw (r₁ .before .before .if1 .taken, ← r₁ .before .within .ensures, r₁ .if2 .left, ← r₂ .before .within2 .ensures, r₂ .if3 .left, ← r₃ .before .within3 .ensures, r₃ .if4 .left, ← c .before .within4 .ensures, c .if5 .taken)
+    rw (
+      r₁ .before .before .if1 .taken,
+      ← r₁ .before .within .ensures,
+      r₁ .if2 .left,
+      ← r₂ .before .within2 .ensures,
+      r₂ .if3 .left,
+      ← r₃ .before .within3 .ensures,
+      r₃ .if4 .left,
+      ← c .before .within4 .ensures,
+      c .if5 .taken,
+    )
 
 compat-kernel-segment-requires : tie.Need-compat-kernel-segment-requires
 compat-kernel-segment-requires c κs = search needs
@@ -50,7 +74,17 @@ returns-5 c =
     let r₃ = r₄ .before .before in
     let r₂ = r₃ .before .before in
     let r₁ = r₂ .before .before in
-    rw (r₁ .before .before .if1 .taken, ← r₁ .before .within .ensures, r₁ .if2 .left, ← r₂ .before .within2 .ensures, r₂ .if3 .left, ← r₃ .before .within3 .ensures, r₃ .if4 .left, ← r₄ .before .within4 .ensures, r₄ .if5 .left)
+    rw (
+      r₁ .before .before .if1 .taken,
+      ← r₁ .before .within .ensures,
+      r₁ .if2 .left,
+      ← r₂ .before .within2 .ensures,
+      r₂ .if3 .left,
+      ← r₃ .before .within3 .ensures,
+      r₃ .if4 .left,
+      ← r₄ .before .within4 .ensures,
+      r₄ .if5 .left,
+    )
     (c .compat-kernel-segment .ensures)
 
 within-requires-5 : tie.Need-within-requires-5
@@ -65,7 +99,8 @@ compat-kernel-segment-requires-2 c κs = search needs
 returns-7 : tie.Need-returns-7
 returns-7 c =
     let r₁ = c .before in
-    rw (r₁ .before .before .if1 .left, ← r₁ .before .within5 .ensures, r₁ .if6 .left) (c .compat-kernel-segment2 .ensures)
+    rw (r₁ .before .before .if1 .left, ← r₁ .before .within5 .ensures, r₁ .if6 .left)
+    (c .compat-kernel-segment2 .ensures)
 
 pub kernel-segment-spec : {M : Type 1} → statement M
 kernel-segment-spec =

@@ -20,7 +20,12 @@ returns-2 : tie.Need-returns-2
 returns-2 c =
     let cache = c .before in
     let zero = cache .before .before in
-    rw (← zero .before .field .ensures, eq-eqb _ _ (zero .if1 .left), ← cache .before .field2 .ensures, eq-eqb _ _ (cache .if2 .taken))
+    rw (
+      ← zero .before .field .ensures,
+      eq-eqb _ _ (zero .if1 .left),
+      ← cache .before .field2 .ensures,
+      eq-eqb _ _ (cache .if2 .taken),
+    )
     (c .direct .ensures)
 
 direct-requires-2 : tie.Need-direct-requires-2
@@ -30,7 +35,12 @@ returns-3 : tie.Need-returns-3
 returns-3 c =
     let cache = c .before in
     let zero = cache .before .before in
-    rw (← zero .before .field .ensures, eq-eqb _ _ (zero .if1 .left), ← cache .before .field2 .ensures, ne-eqb _ _ (cache .if2 .left))
+    rw (
+      ← zero .before .field .ensures,
+      eq-eqb _ _ (zero .if1 .left),
+      ← cache .before .field2 .ensures,
+      ne-eqb _ _ (cache .if2 .left),
+    )
     (c .direct2 .ensures)
 
 pub xkphys-spec : {M : Type 1} → statement M

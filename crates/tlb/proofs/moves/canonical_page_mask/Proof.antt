@@ -31,7 +31,14 @@ add-bit c = search needs
 mul-out : tie.Need-mul-out Inv-loop μ-loop
 mul-out c =
     let l = c .before .loop in
-    record { fits = omega (arith, l .inv .1, pairs-small (6 - l .pair) (c .before .before .args .mask / 2 ^ (13 + 2 * l .pair)) (omega arith)) }
+    record {
+      fits = omega (
+        arith,
+        l .inv .1,
+        pairs-small (6 - l .pair)
+            (c .before .before .args .mask / 2 ^ (13 + 2 * l .pair)) (omega arith),
+      );
+    }
 
 field-requires : tie.Need-field-requires Inv-loop μ-loop
 field-requires c κs = search needs
@@ -48,7 +55,14 @@ add-out c =
     let mask : ℕ = c .before .before .before .args .mask in
     record {
       fits =
-          omega (arith, l .inv .1, c .field .ensures, pairs-small (6 - l .pair) (mask / 2 ^ (13 + 2 * l .pair)) (omega arith), bit-lt mask (14 + 2 * (l .pair - 1)));
+          omega (
+            arith,
+            l .inv .1,
+            c .field .ensures,
+            pairs-small (6 - l .pair) (mask / 2 ^ (13 + 2 * l .pair))
+                (omega arith),
+            bit-lt mask (14 + 2 * (l .pair - 1)),
+          );
     }
 
 loop-less : tie.Need-loop-less Inv-loop μ-loop
@@ -62,7 +76,14 @@ loop-again c =
 mul-result : tie.Need-mul-result Inv-loop μ-loop
 mul-result c =
     let l = c .before .loop in
-    record { fits = omega (arith, l .inv .1, pairs-small (6 - l .pair) (c .before .before .args .mask / 2 ^ (13 + 2 * l .pair)) (omega arith)) }
+    record {
+      fits = omega (
+        arith,
+        l .inv .1,
+        pairs-small (6 - l .pair)
+            (c .before .before .args .mask / 2 ^ (13 + 2 * l .pair)) (omega arith),
+      );
+    }
 
 returns : tie.Need-returns Inv-loop μ-loop
 returns c =

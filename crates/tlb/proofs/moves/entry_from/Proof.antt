@@ -60,7 +60,12 @@ returns c =
     let m = g .before .before .before in
     let r = m .before .before .before in
     rw (c .field3 .ensures, c .before .field2 .ensures, c .before .before .merge .ensures, f .field .ensures)
-    (rw (g .global-from .ensures, g .before .page-from2 .ensures, g .before .before .page-from .ensures, m .canonical-page-mask .ensures)
+    (rw (
+      g .global-from .ensures,
+      g .before .page-from2 .ensures,
+      g .before .before .page-from .ensures,
+      m .canonical-page-mask .ensures,
+    )
     (rw (m .before .read4 .ensures, m .before .before .read3 .ensures, r .read2 .ensures, r .before .read .ensures)))
 
 pub entry-from-spec : {M : Type 1} → statement M

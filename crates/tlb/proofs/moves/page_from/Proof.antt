@@ -23,7 +23,12 @@ field-requires-4 c κs = search needs
 
 returns : tie.Need-returns
 returns c =
-    rw (c .before .before .before .field .ensures, c .before .before .field2 .ensures, c .before .field3 .ensures, c .field4 .ensures)
+    rw (
+      c .before .before .before .field .ensures,
+      c .before .before .field2 .ensures,
+      c .before .field3 .ensures,
+      c .field4 .ensures,
+    )
 
 pub page-from-spec : {M : Type 1} → statement M
 page-from-spec =

@@ -58,7 +58,14 @@ returns-5 c =
     let ksu = c .before in
     let exl = ksu .before in
     let other = c .match .rest in
-    rw (← exl .before .field .ensures, ne-eqb _ _ (exl .if1 .left), ← ksu .field2 .ensures, ne-eqb _ 0 (other .0 .0 .1), ne-eqb _ 1 (other .0 .1), ne-eqb _ 2 (other .1))
+    rw (
+      ← exl .before .field .ensures,
+      ne-eqb _ _ (exl .if1 .left),
+      ← ksu .field2 .ensures,
+      ne-eqb _ 0 (other .0 .0 .1),
+      ne-eqb _ 1 (other .0 .1),
+      ne-eqb _ 2 (other .1),
+    )
 
 pub from-status-spec : {M : Type 1} → statement M
 from-status-spec =

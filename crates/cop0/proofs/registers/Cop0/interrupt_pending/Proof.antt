@@ -24,7 +24,13 @@ returns-2 : tie.Need-returns-2
 unfolding interruptPendingOf
 returns-2 c =
     let s = c .before .before in
-    rw (← s .before .before .reg .ensures, ← s .before .field .ensures, ← c .before .field2 .ensures, eq-eqb _ _ (s .if1 .left), ne-eqb _ _ (c .if2 .taken))
+    rw (
+      ← s .before .before .reg .ensures,
+      ← s .before .field .ensures,
+      ← c .before .field2 .ensures,
+      eq-eqb _ _ (s .if1 .left),
+      ne-eqb _ _ (c .if2 .taken),
+    )
 
 field-requires-3 : tie.Need-field-requires-3
 field-requires-3 c κs = search needs
@@ -34,7 +40,15 @@ unfolding interruptPendingOf
 returns-3 c =
     let s = c .before .before in
     let s₁ = s .before .before in
-    rw (← s₁ .before .before .reg .ensures, ← s₁ .before .field .ensures, ← s .before .field2 .ensures, ← c .before .field3 .ensures, eq-eqb _ _ (s₁ .if1 .left), eq-eqb _ _ (s .if2 .left), ne-eqb _ _ (c .if3 .taken))
+    rw (
+      ← s₁ .before .before .reg .ensures,
+      ← s₁ .before .field .ensures,
+      ← s .before .field2 .ensures,
+      ← c .before .field3 .ensures,
+      eq-eqb _ _ (s₁ .if1 .left),
+      eq-eqb _ _ (s .if2 .left),
+      ne-eqb _ _ (c .if3 .taken),
+    )
 
 reg-requires-2 : tie.Need-reg-requires-2
 reg-requires-2 c κs = search needs
@@ -51,7 +65,18 @@ returns-4 c =
     let s₃ = c .before .before .before in
     let s₂ = s₃ .before .before in
     let s₁ = s₂ .before .before in
-    rw (c .field5 .ensures, c .before .field4 .ensures, c .before .before .reg2 .ensures, ← s₁ .before .before .reg .ensures, ← s₁ .before .field .ensures, ← s₂ .before .field2 .ensures, ← s₃ .before .field3 .ensures, eq-eqb _ _ (s₁ .if1 .left), eq-eqb _ _ (s₂ .if2 .left), eq-eqb _ _ (s₃ .if3 .left))
+    rw (
+      c .field5 .ensures,
+      c .before .field4 .ensures,
+      c .before .before .reg2 .ensures,
+      ← s₁ .before .before .reg .ensures,
+      ← s₁ .before .field .ensures,
+      ← s₂ .before .field2 .ensures,
+      ← s₃ .before .field3 .ensures,
+      eq-eqb _ _ (s₁ .if1 .left),
+      eq-eqb _ _ (s₂ .if2 .left),
+      eq-eqb _ _ (s₃ .if3 .left),
+    )
 
 pub interrupt-pending-spec : {M : Type 1} → statement M
 interrupt-pending-spec =

@@ -20,7 +20,13 @@ returns : tie.Need-returns
 unfolding moved32
 returns c =
     let b = c .before .before .before in
-    rw (c .dmtc0 .ensures, c .before .sign-extend .ensures, b .before .low32 .ensures, ← b .is-wide .ensures, c .before .before .if1 .taken)
+    rw (
+      c .dmtc0 .ensures,
+      c .before .sign-extend .ensures,
+      b .before .low32 .ensures,
+      ← b .is-wide .ensures,
+      c .before .before .if1 .taken,
+    )
 
 zero-extend-requires : tie.Need-zero-extend-requires
 zero-extend-requires c κs = search needs
@@ -32,7 +38,13 @@ returns-2 : tie.Need-returns-2
 unfolding moved32
 returns-2 c =
     let b = c .before .before .before in
-    rw (c .dmtc02 .ensures, c .before .zero-extend .ensures, b .before .low32 .ensures, ← b .is-wide .ensures, c .before .before .if1 .left)
+    rw (
+      c .dmtc02 .ensures,
+      c .before .zero-extend .ensures,
+      b .before .low32 .ensures,
+      ← b .is-wide .ensures,
+      c .before .before .if1 .left,
+    )
 
 pub mtc0-spec : {M : Type 1} → statement M
 mtc0-spec =

@@ -42,13 +42,28 @@ unfolding readAt
 returns-3 c =
     let d = c .before in
     let b = d .before .before .before in
-    rw (d .before .arch-mask .ensures, d .before .before .reg .ensures, ← b .before .before .is-unused .ensures, b .before .if1 .left, ne-eqb _ _ (b .if2 .left), eq-eqb _ _ (d .if3 .taken), d .if3 .taken)
+    rw (
+      d .before .arch-mask .ensures,
+      d .before .before .reg .ensures,
+      ← b .before .before .is-unused .ensures,
+      b .before .if1 .left,
+      ne-eqb _ _ (b .if2 .left),
+      eq-eqb _ _ (d .if3 .taken),
+      d .if3 .taken,
+    )
 
 returns-4 : tie.Need-returns-4
 unfolding readAt
 returns-4 c =
     let b = c .before .before .before in
-    rw (c .before .arch-mask .ensures, c .before .before .reg .ensures, ← b .before .before .is-unused .ensures, b .before .if1 .left, ne-eqb _ _ (b .if2 .left), ne-eqb _ _ (c .if3 .left))
+    rw (
+      c .before .arch-mask .ensures,
+      c .before .before .reg .ensures,
+      ← b .before .before .is-unused .ensures,
+      b .before .if1 .left,
+      ne-eqb _ _ (b .if2 .left),
+      ne-eqb _ _ (c .if3 .left),
+    )
 
 pub read-spec : {M : Type 1} → statement M
 read-spec =

@@ -28,7 +28,9 @@ returns : tie.Need-returns
 returns c =
     let w = c .before .before .before in
     c .ask .ensures
-    ∙ to-count _ _ _ _ _ _ _ (w .before .before .before .write-mask .ensures) (w .before .before .reg .ensures) (w .before .merge .ensures) (w .with-reg .ensures) _ (c .before .low32 .ensures) (c .before .before .if1 .taken)
+    ∙ to-count _ _ _ _ _ _ _ (w .before .before .before .write-mask .ensures) (w .before .before .reg .ensures)
+    (w .before .merge .ensures) (w .with-reg .ensures) _ (c .before .low32 .ensures)
+    (c .before .before .if1 .taken)
 
 set-ip-requires : tie.Need-set-ip-requires
 set-ip-requires c κs = search needs
@@ -41,7 +43,9 @@ returns-2 c =
     let w = c .before .before .before .before in
     c .ask2 .ensures
     ∙ ap asked (c .before .set-ip .ensures)
-    ∙ to-compare _ _ _ _ _ _ _ (w .before .before .before .write-mask .ensures) (w .before .before .reg .ensures) (w .before .merge .ensures) (w .with-reg .ensures) (c .before .before .before .if1 .left) (c .before .before .if2 .taken)
+    ∙ to-compare _ _ _ _ _ _ _ (w .before .before .before .write-mask .ensures) (w .before .before .reg .ensures)
+    (w .before .merge .ensures) (w .with-reg .ensures) (c .before .before .before .if1 .left)
+    (c .before .before .if2 .taken)
 
 with-reg-requires-2 : tie.Need-with-reg-requires-2
 with-reg-requires-2 c κs = search needs
@@ -50,12 +54,16 @@ returns-3 : tie.Need-returns-3
 returns-3 c =
     let w = c .before .before .before .before in
     c .with-reg2 .ensures
-    ∙ to-wired _ _ _ _ _ _ _ (w .before .before .before .write-mask .ensures) (w .before .before .reg .ensures) (w .before .merge .ensures) (w .with-reg .ensures) (c .before .before .before .if1 .left) (c .before .before .if2 .left) (c .before .if3 .taken)
+    ∙ to-wired _ _ _ _ _ _ _ (w .before .before .before .write-mask .ensures) (w .before .before .reg .ensures)
+    (w .before .merge .ensures) (w .with-reg .ensures) (c .before .before .before .if1 .left)
+    (c .before .before .if2 .left) (c .before .if3 .taken)
 
 returns-4 : tie.Need-returns-4
 returns-4 c =
     let w = c .before .before .before in
-    to-other _ _ _ _ _ _ _ (w .before .before .before .write-mask .ensures) (w .before .before .reg .ensures) (w .before .merge .ensures) (w .with-reg .ensures) (c .before .before .if1 .left) (c .before .if2 .left) (c .if3 .left)
+    to-other _ _ _ _ _ _ _ (w .before .before .before .write-mask .ensures) (w .before .before .reg .ensures)
+    (w .before .merge .ensures) (w .with-reg .ensures) (c .before .before .if1 .left) (c .before .if2 .left)
+    (c .if3 .left)
 
 pub write-spec : {M : Type 1} → statement M
 write-spec =

@@ -16,13 +16,18 @@ returns-2 : tie.Need-returns-2
 unfolding halfAnswer
 returns-2 c =
     let a = c .before .before .before .before .args in
-    rw (not-false (a .self .valid) (c .before .before .if1 .left), not-true (a .store) (c .before .if2 .taken)) (c .found .ensures)
+    rw (not-false (a .self .valid) (c .before .before .if1 .left), not-true (a .store) (c .before .if2 .taken))
+    (c .found .ensures)
 
 returns-3 : tie.Need-returns-3
 unfolding halfAnswer
 returns-3 c =
     let a = c .before .before .before .before .before .args in
-    rw (not-false (a .self .valid) (c .before .before .before .if1 .left), not-false (a .store) (c .before .before .if2 .left), not-true (a .self .dirty) (c .if3 .taken))
+    rw (
+      not-false (a .self .valid) (c .before .before .before .if1 .left),
+      not-false (a .store) (c .before .before .if2 .left),
+      not-true (a .self .dirty) (c .if3 .taken),
+    )
 
 found-requires-2 : tie.Need-found-requires-2
 found-requires-2 c κs = search needs
@@ -31,7 +36,11 @@ returns-4 : tie.Need-returns-4
 unfolding halfAnswer
 returns-4 c =
     let a = c .before .before .before .before .before .before .args in
-    rw (not-false (a .self .valid) (c .before .before .before .before .if1 .left), not-false (a .store) (c .before .before .before .if2 .left), not-false (a .self .dirty) (c .before .if3 .left)) (c .found2 .ensures)
+    rw (
+      not-false (a .self .valid) (c .before .before .before .before .if1 .left),
+      not-false (a .store) (c .before .before .before .if2 .left),
+      not-false (a .self .dirty) (c .before .if3 .left),
+    ) (c .found2 .ensures)
 
 pub answer-spec : {M : Type 1} → statement M
 answer-spec =

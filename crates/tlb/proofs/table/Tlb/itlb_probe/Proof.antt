@@ -23,12 +23,22 @@ slot-hits-requires-2 c κs = search needs
 returns-2 : tie.Need-returns-2
 unfolding probedOf
 returns-2 c =
-    rw (← c .before .before .before .before .slot-hits .ensures, c .before .before .before .if1 .left, ← c .before .slot-hits2 .ensures, c .if2 .taken)
+    rw (
+      ← c .before .before .before .before .slot-hits .ensures,
+      c .before .before .before .if1 .left,
+      ← c .before .slot-hits2 .ensures,
+      c .if2 .taken,
+    )
 
 returns-3 : tie.Need-returns-3
 unfolding probedOf
 returns-3 c =
-    rw (← c .before .before .before .before .slot-hits .ensures, c .before .before .before .if1 .left, ← c .before .slot-hits2 .ensures, c .if2 .left)
+    rw (
+      ← c .before .before .before .before .slot-hits .ensures,
+      c .before .before .before .if1 .left,
+      ← c .before .slot-hits2 .ensures,
+      c .if2 .left,
+    )
 
 pub itlb-probe-spec : {M : Type 1} → statement M
 itlb-probe-spec =

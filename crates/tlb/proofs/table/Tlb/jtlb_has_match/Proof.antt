@@ -15,7 +15,10 @@ scan-requires c κs = search needs
 returns-2 : tie.Need-returns-2
 unfolding hasMatchOf
 returns-2 c =
-    rw (lowest-is (c .before .before .before .args .self) _ _ _ (c .before .scan .ensures), c .before .before .if1 .left)
+    rw (
+      lowest-is (c .before .before .before .args .self) _ _ _ (c .before .scan .ensures),
+      c .before .before .if1 .left,
+    )
 
 pub jtlb-has-match-spec : {M : Type 1} → statement M
 jtlb-has-match-spec = tie.close (tie.spec returns scan-requires returns-2)

@@ -40,7 +40,9 @@ answer-requires c κs = search needs
 returns-3 : tie.Need-returns-3
 returns-3 c =
     let a = c .before .before .before .before .before .before .args in
-    let r = found (a .t1) (a .vaddr) (a .asid) (a .store) (c .before .before .before .before .before .if1 .left) _ (c .before .before .before .before .scan .ensures) (c .before .before .before .if2 .left) (c .before .before .if3 .taken) in
+    let r = found (a .t1) (a .vaddr) (a .asid) (a .store) (c .before .before .before .before .before .if1 .left) _
+    (c .before .before .before .before .scan .ensures) (c .before .before .before .if2 .left)
+    (c .before .before .if3 .taken) in
     (ap toldLookup (c .answer .ensures ∙ r .0), r .1)
 
 fault-requires-3 : tie.Need-fault-requires-3
@@ -51,7 +53,8 @@ returns-4 c =
     let s = c .before .before .before .before .before in
     let a = s .args in
     let len : length (a .t1 .entries) ≡ 32 = simp length-map at (s .good .0 .1 .1 .0 .1 .0 .1) in
-    let r = nothing (a .t1) (a .vaddr) (a .asid) (a .store) (c .before .before .before .before .if1 .left) _ (c .before .before .before .scan .ensures) len (c .before .before .if2 .left) (c .before .if3 .left) in
+    let r = nothing (a .t1) (a .vaddr) (a .asid) (a .store) (c .before .before .before .before .if1 .left) _
+    (c .before .before .before .scan .ensures) len (c .before .before .if2 .left) (c .before .if3 .left) in
     (ap toldLookup (c .fault3 .ensures .0 ∙ r .0), c .fault3 .ensures .1 ∙ r .1)
 
 pub lookup-spec : {M : Type 1} → statement M

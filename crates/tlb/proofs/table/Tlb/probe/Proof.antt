@@ -26,7 +26,13 @@ unfolding probeOf
 returns c =
     let s = c .before .before in
     let a = c .before .before .before .before .before .args in
-    rw (c .set-hardware .ensures, ← c .before .before .before .before .read .ensures, ← c .before .before .before .field .ensures, lowest-is (a .self) _ _ _ (s .scan .ensures), lt-ltb _ _ (c .before .if1 .taken))
+    rw (
+      c .set-hardware .ensures,
+      ← c .before .before .before .before .read .ensures,
+      ← c .before .before .before .field .ensures,
+      lowest-is (a .self) _ _ _ (s .scan .ensures),
+      lt-ltb _ _ (c .before .if1 .taken),
+    )
 
 set-hardware-requires-2 : tie.Need-set-hardware-requires-2
 set-hardware-requires-2 c κs = search needs
@@ -36,7 +42,13 @@ unfolding probeOf
 returns-2 c =
     let s = c .before .before in
     let a = c .before .before .before .before .before .args in
-    rw (c .set-hardware2 .ensures, ← c .before .before .before .before .read .ensures, ← c .before .before .before .field .ensures, lowest-is (a .self) _ _ _ (s .scan .ensures), le-ltb _ _ (c .before .if1 .left))
+    rw (
+      c .set-hardware2 .ensures,
+      ← c .before .before .before .before .read .ensures,
+      ← c .before .before .before .field .ensures,
+      lowest-is (a .self) _ _ _ (s .scan .ensures),
+      le-ltb _ _ (c .before .if1 .left),
+    )
 
 pub probe-spec : {M : Type 1} → statement M
 probe-spec =

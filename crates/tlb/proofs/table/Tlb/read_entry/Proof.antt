@@ -38,7 +38,12 @@ returns c =
     let h = o .before .before in
     let p = h .before .before in
     rw (c .set-hardware4 .ensures, c .before .lo-from2 .ensures, o .set-hardware3 .ensures, o .before .lo-from .ensures)
-    (rw (h .set-hardware2 .ensures, h .before .hi-from .ensures, p .set-hardware .ensures, p .before .before .before .before .entry .ensures))
+    (rw (
+      h .set-hardware2 .ensures,
+      h .before .hi-from .ensures,
+      p .set-hardware .ensures,
+      p .before .before .before .before .entry .ensures,
+    ))
 
 pub read-entry-spec : {M : Type 1} → statement M
 read-entry-spec =

@@ -53,8 +53,12 @@ loop-again c =
       omega arith,
       ⊎-elim (λ w. rw (w .2) (omega arith)) (λ w. rw (w .1) (omega arith)) (c .if1 .came),
       ⊎-elim
-          (λ w. rw (w .2) (turn-hit (a .t1 .entries) (a .vaddr) (a .asid) len (b .loop .found) (b .loop .i) (b .loop .inv .2) _ (c .before .before .before .loop-test .taken) (w .1 .left) (sym (c .before .matches .ensures) ∙ w .0 .taken)))
-          (λ w. rw (w .1) (turn-miss (a .t1 .entries) (a .vaddr) (a .asid) len (b .loop .found) (b .loop .i) (b .loop .inv .2) _ (c .before .before .before .loop-test .taken) (sym (c .before .matches .ensures) ∙ w .0 .left)))
+          (λ w. rw (w .2) (turn-hit (a .t1 .entries) (a .vaddr) (a .asid) len (b .loop .found) (b .loop .i)
+          (b .loop .inv .2) _ (c .before .before .before .loop-test .taken) (w .1 .left)
+          (sym (c .before .matches .ensures) ∙ w .0 .taken)))
+          (λ w. rw (w .1) (turn-miss (a .t1 .entries) (a .vaddr) (a .asid) len (b .loop .found) (b .loop .i)
+          (b .loop .inv .2) _ (c .before .before .before .loop-test .taken)
+          (sym (c .before .matches .ensures) ∙ w .0 .left)))
           (c .if1 .came),
     )
 
