@@ -19,9 +19,17 @@ impl Fields {
 
     /// A field that holds an array of numbers.
     pub fn numbers(&self, name: &str) -> Vec<u64> {
+        self.list(name).map(decimal).collect()
+    }
+
+    /// A field that holds an array of numbers that may be missing: `[None, Some(3)]`.
+    pub fn slots(&self, name: &str) -> Vec<Option<u64>> {
+        self.list(name).map(slot).collect()
+    }
+
+    fn list(&self, name: &str) -> impl Iterator<Item = &str> {
         let list = self.after(name).strip_prefix('[').unwrap();
-        let list = list.split(']').next().unwrap();
-        list.split(", ").map(decimal).collect()
+        list.split(']').next().unwrap().split(", ")
     }
 
     /// The text from a field's value on. The space before keeps `now` apart from `count_now`.
@@ -31,6 +39,12 @@ impl Fields {
         let at = at.unwrap_or_else(|| panic!("no field {name} in {}", self.0));
         &self.0[at + label.len()..]
     }
+}
+
+fn slot(text: &str) -> Option<u64> {
+    let inner = text.strip_prefix("Some(").and_then(|rest| rest.strip_suffix(')'));
+    assert!(inner.is_some() || text == "None", "no slot: {text:?}");
+    inner.map(decimal)
 }
 
 fn decimal(text: &str) -> u64 {
@@ -47,13 +61,16 @@ mod tests {
         list: [u64; 3],
         count_now: u64,
         now: u8,
+        slots: [Option<usize>; 2],
     }
 
     #[test]
     fn fields_by_name() {
-        let fields = Fields::of(&Record { list: [1, u64::MAX, 3], count_now: 4, now: 5 });
+        let slots = [None, Some(31)];
+        let fields = Fields::of(&Record { list: [1, u64::MAX, 3], count_now: 4, now: 5, slots });
         assert_eq!(fields.numbers("list"), [1, u64::MAX, 3]);
         assert_eq!(fields.number("count_now"), 4);
         assert_eq!(fields.number("now"), 5);
+        assert_eq!(fields.slots("slots"), [None, Some(31)]);
     }
 }

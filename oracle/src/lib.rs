@@ -1,9 +1,10 @@
 //! Plays a trace on the Rust original: the answers that the port is held to.
 //!
 //! A trace line is read by [`parse`], named in the table of [`operations`], run on the original's
-//! records in [`machine`], and answered in the trace format's words; [`play`] goes through a whole
+//! records in [`machine`], and answered in the words of [`answers`]; [`play`] goes through a whole
 //! trace.
 
+mod answers;
 mod fields;
 pub mod machine;
 pub mod operations;

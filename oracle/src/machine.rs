@@ -1,17 +1,30 @@
 //! The original's records, and what the scope (document 01) adds to them.
 
-use original::cop0::Cop0;
+use original::addr::{Access, Mode};
+use original::cop0::{reg, Cop0};
+use original::tlb::{Tlb, JTLB_ENTRIES};
 
+use crate::answers;
 use crate::fields::Fields;
 
 /// The timer's pending bit.
 const TIMER: u8 = 7;
+
+/// Bits of Status.
+const EXL: u8 = 1;
+const ERL: u8 = 2;
+const KSU: u8 = 3;
+const UX: u8 = 5;
+const SX: u8 = 6;
+const KX: u8 = 7;
 
 /// Why an operation is turned away, by the scope's number.
 #[derive(Clone, Copy, Debug, Eq, PartialEq)]
 pub struct Refusal(pub u8);
 
 impl Refusal {
+    /// KSU is 3, which names no mode, and EXL is 0.
+    pub const MODE: Self = Self(4);
     /// An advance of 2^32 counts or more: the timer's distances would come round unseen.
     pub const COUNTS: Self = Self(5);
     /// An `rs` field that names no access form.
@@ -21,6 +34,7 @@ impl Refusal {
 /// All that a trace works on.
 pub struct Machine {
     pub cop0: Cop0,
+    pub tlb: Tlb,
 }
 
 impl Default for Machine {
@@ -31,7 +45,7 @@ impl Default for Machine {
 
 impl Machine {
     pub fn new() -> Self {
-        Self { cop0: Cop0::new() }
+        Self { cop0: Cop0::new(), tlb: Tlb::new() }
     }
 
     /// The scope's clock advance, which the original leaves to its scheduler: moves the clock,
@@ -49,36 +63,85 @@ impl Machine {
         Ok(edge)
     }
 
-    /// The answer to `state`: the registers as stored, and the clock.
+    /// The scope's access, read from Status; the original leaves it to its pipeline.
+    pub fn access(&self) -> Result<Access, Refusal> {
+        let status = self.cop0.read(reg::STATUS);
+        let bit = |number: u8| status >> number & 1 == 1;
+        let ksu = if bit(EXL) { 0 } else { status >> KSU & 3 };
+        let (mode, wide) = match ksu {
+            0 => (Mode::Kernel, bit(KX)),
+            1 => (Mode::Supervisor, bit(SX)),
+            2 => (Mode::User, bit(UX)),
+            _ => return Err(Refusal::MODE),
+        };
+        Ok(Access { mode, wide, erl: bit(ERL) })
+    }
+
+    /// The answer to `entry`. The original takes the number modulo 32 by itself.
+    pub fn entry(&self, number: u64) -> String {
+        let entry = self.tlb.entry(number as usize);
+        answers::entry(number % JTLB_ENTRIES as u64, entry)
+    }
+
+    /// The answer to `state`: the registers as stored, the clock, the micro-TLB, all entries.
     pub fn state(&self) -> String {
+        let entries = (0..JTLB_ENTRIES as u64).map(|number| self.entry(number));
+        let lines = self.register_lines().into_iter().chain([self.micro_line()]).chain(entries);
+        lines.collect::<Vec<String>>().join("\n")
+    }
+
+    fn register_lines(&self) -> [String; 2] {
         let fields = Fields::of(&self.cop0);
         let clock =
             ["now", "count_epoch_value", "count_epoch_tick", "last_count", "ec", "write_latch"];
-        let regs = line("regs", &fields.numbers("regs"));
-        regs + "\n" + &line("clock", &clock.map(|name| fields.number(name)))
+        let clock = clock.map(|name| fields.number(name));
+        [answers::numbers("regs", &fields.numbers("regs")), answers::numbers("clock", &clock)]
     }
-}
 
-fn line(name: &str, numbers: &[u64]) -> String {
-    let words = numbers.iter().map(|number| format!(" {number:016x}"));
-    words.fold(name.into(), |line, word| line + &word)
+    fn micro_line(&self) -> String {
+        let fields = Fields::of(&self.tlb);
+        let (slots, next) = (fields.slots("itlb"), fields.number("itlb_lru"));
+        answers::micro(&slots, next, self.tlb.is_shutdown())
+    }
 }
 
 #[cfg(test)]
 mod tests {
     use super::*;
-    use original::cop0::reg;
 
     #[test]
     fn fresh_state() {
         let state = Machine::new().state();
-        let (regs, clock) = state.split_once('\n').unwrap();
-        let regs: Vec<&str> = regs.split(' ').collect();
+        let lines: Vec<&str> = state.split('\n').collect();
+        assert_eq!(lines.len(), 35);
+        let regs: Vec<&str> = lines[0].split(' ').collect();
         assert_eq!((regs.len(), regs[0]), (33, "regs"));
         assert_eq!(regs[1 + usize::from(reg::STATUS)], "0000000000400004");
         let ec_and_latch = "0000000000000007 0000000000000000";
-        assert!(clock.starts_with("clock 0000000000000000 "));
-        assert!(clock.ends_with(ec_and_latch));
+        assert!(lines[1].starts_with("clock 0000000000000000 "));
+        assert!(lines[1].ends_with(ec_and_latch));
+        assert_eq!(lines[2], "itlb 0000000000000020 0000000000000020 0000000000000000 0");
+        let last = "entry 000000000000001f 0000000000000000 000000fffffc0000 0000000000000000 0 ";
+        assert!(lines[34].starts_with(last));
+    }
+
+    /// Each mode takes its own width bit, and EXL is kernel mode under any KSU.
+    #[test]
+    fn access_from_status() {
+        let access = |status| {
+            let mut machine = Machine::new();
+            machine.cop0.write(reg::STATUS, status);
+            machine.access()
+        };
+        let mode = |mode, wide, erl| Ok(Access { mode, wide, erl });
+        assert_eq!(access(0x80), mode(Mode::Kernel, true, false));
+        assert_eq!(access(0x60), mode(Mode::Kernel, false, false));
+        assert_eq!(access(0x4C), mode(Mode::Supervisor, true, true));
+        assert_eq!(access(0xA8), mode(Mode::Supervisor, false, false));
+        assert_eq!(access(0x30), mode(Mode::User, true, false));
+        assert_eq!(access(0xD0), mode(Mode::User, false, false));
+        assert_eq!(access(0x9A), mode(Mode::Kernel, true, false));
+        assert_eq!(access(0xFD), Err(Refusal::MODE));
     }
 
     /// The scope's numbers P10 and P11.

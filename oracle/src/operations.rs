@@ -1,9 +1,12 @@
 //! The trace's operations: a row for each, with what it takes and what it does.
 
+use original::addr::{self, Access};
 use original::cop0::{self, Cop0, Cop0Op};
+use original::tlb::Tlb;
 
+use crate::answers;
 use crate::machine::{Machine, Refusal};
-use crate::parse::Operand::{self, Byte, Flag, Long};
+use crate::parse::Operand::{self, Byte, Flag, Long, Mode, Word};
 use Run::{Asks, Does, Gives, Says};
 
 /// One operation of the trace format.
@@ -37,7 +40,7 @@ pub static OPERATIONS: &[Operation] = &[
     row("set_hardware", &[Byte, Long], Does(|m, a| m.cop0.set_hardware(byte(a[0]), a[1]))),
     row("set_ip", &[Byte, Flag], Does(|m, a| m.cop0.set_ip(byte(a[0]), a[1] == 1))),
     row("interrupt_pending", &[], Asks(|m, _| m.cop0.interrupt_pending())),
-    row("advance", &[Long, Long], Says(|m, a| m.advance(a[0], a[1]).map(edge))),
+    row("advance", &[Long, Long], Says(|m, a| m.advance(a[0], a[1]).map(answers::edge))),
     row("set_now", &[Long], Does(|m, a| m.cop0.set_now(a[0]))),
     row("tick_random", &[], Does(|m, _| m.cop0.tick_random())),
     row("tick_random_by", &[Long], Does(|m, a| m.cop0.tick_random_by(a[0]))),
@@ -46,9 +49,23 @@ pub static OPERATIONS: &[Operation] = &[
     row("count", &[], Gives(|m, _| m.cop0.count().into())),
     row("count_now", &[], Gives(|m, _| m.cop0.count_now())),
     row("count_ticks_until_timer_match", &[], Gives(|m, _| m.cop0.count_ticks_until_timer_match())),
-    row("from_rs", &[Byte], Says(|_, a| access_form(byte(a[0])).map(number))),
+    row("from_rs", &[Byte], Says(|_, a| access_form(byte(a[0])).map(answers::number))),
     row("is_wide", &[Byte], Asks(|_, a| cop0::is_wide(byte(a[0])))),
     row("is_unused", &[Byte], Asks(|_, a| Cop0::is_unused(byte(a[0])))),
+    row("is_shutdown", &[], Asks(|m, _| m.tlb.is_shutdown())),
+    row("entry", &[Long], Says(|m, a| Ok(m.entry(a[0])))),
+    row("page_size", &[Word], Gives(|_, a| Tlb::page_size(word(a[0])))),
+    row("pair_size", &[Word], Gives(|_, a| Tlb::pair_size(word(a[0])))),
+    row("lookup", &[Long, Byte, Flag], Says(|m, a| Ok(lookup(m, a)))),
+    row("write_entry", &[Long], Does(|m, a| m.tlb.write_entry(a[0] as usize, &m.cop0))),
+    row("read_entry", &[Long], Does(|m, a| m.tlb.read_entry(a[0] as usize, &mut m.cop0))),
+    row("probe", &[], Does(|m, _| m.tlb.probe(&mut m.cop0))),
+    row("jtlb_has_match", &[Long, Byte], Asks(|m, a| m.tlb.jtlb_has_match(a[0], byte(a[1])))),
+    row("itlb_probe", &[Long, Byte], Asks(|m, a| m.tlb.itlb_probe(a[0], byte(a[1])))),
+    row("itlb_fill", &[Long, Byte], Does(|m, a| m.tlb.itlb_fill(a[0], byte(a[1])))),
+    row("segment", &[Long, Mode, Flag, Flag], Says(|_, a| Ok(segment(a)))),
+    row("translate_via", &[Long, Byte, Flag, Mode, Flag, Flag], Says(|m, a| Ok(translate(m, a)))),
+    row("access", &[], Says(|m, _| m.access().map(answers::access))),
     row("state", &[], Says(|m, _| Ok(m.state()))),
 ];
 
@@ -69,8 +86,8 @@ impl Operation {
                 run(machine, operands);
                 "ok".into()
             }
-            Gives(run) => number(run(machine, operands)),
-            Asks(run) => format!("= {}", u8::from(run(machine, operands))),
+            Gives(run) => answers::number(run(machine, operands)),
+            Asks(run) => answers::flag(run(machine, operands)),
             Says(run) => run(machine, operands).unwrap_or_else(refused),
         }
     }
@@ -81,12 +98,9 @@ fn byte(operand: u64) -> u8 {
     u8::try_from(operand).expect("the row says Byte")
 }
 
-fn number(value: u64) -> String {
-    format!("= {value:016x}")
-}
-
-fn edge(edge: bool) -> String {
-    format!("edge {}", u8::from(edge))
+/// An operand that its row bounds to 32 bits.
+fn word(operand: u64) -> u32 {
+    u32::try_from(operand).expect("the row says Word")
 }
 
 fn refused(Refusal(number): Refusal) -> String {
@@ -101,4 +115,25 @@ fn access_form(rs: u8) -> Result<u64, Refusal> {
         Cop0Op::Mtc0 => Ok(2),
         Cop0Op::Dmtc0 => Ok(3),
     }
+}
+
+fn lookup(machine: &mut Machine, operands: &[u64]) -> String {
+    let (vaddr, asid, store) = (operands[0], byte(operands[1]), operands[2] == 1);
+    answers::lookup(machine.tlb.lookup(vaddr, asid, store))
+}
+
+fn segment(operands: &[u64]) -> String {
+    answers::segment(addr::segment(operands[0], access(&operands[1..])))
+}
+
+fn translate(machine: &mut Machine, operands: &[u64]) -> String {
+    let (vaddr, asid, store) = (operands[0], byte(operands[1]), operands[2] == 1);
+    let access = access(&operands[3..]);
+    answers::translation(addr::translate_via(&mut machine.tlb, vaddr, asid, store, access))
+}
+
+/// The access that the last operands of a row name: MODE, WIDE and ERL.
+pub fn access(operands: &[u64]) -> Access {
+    const MODES: [addr::Mode; 3] = [addr::Mode::Kernel, addr::Mode::Supervisor, addr::Mode::User];
+    Access { mode: MODES[operands[0] as usize], wide: operands[1] == 1, erl: operands[2] == 1 }
 }

@@ -40,8 +40,12 @@ impl Fault {
 pub enum Operand {
     /// 0 or 1.
     Flag,
+    /// 0 kernel, 1 supervisor, 2 user.
+    Mode,
     /// 8 bits.
     Byte,
+    /// 32 bits.
+    Word,
     /// 64 bits.
     Long,
 }
@@ -50,7 +54,9 @@ impl Operand {
     pub fn greatest(self) -> u64 {
         match self {
             Self::Flag => 1,
+            Self::Mode => 2,
             Self::Byte => u64::from(u8::MAX),
+            Self::Word => u64::from(u32::MAX),
             Self::Long => u64::MAX,
         }
     }
@@ -160,6 +166,15 @@ mod tests {
         assert_eq!(fault(b"set_now 1\r"), Some(Fault::BadNumber));
         assert_eq!(fault(b"set_now \xc3\xa9"), Some(Fault::BadNumber));
         assert_eq!(fault(b"set_now +1"), Some(Fault::BadNumber));
+    }
+
+    #[test]
+    fn bounds() {
+        assert_eq!(operands(b"segment 0 2 1 1"), [0, 2, 1, 1]);
+        assert_eq!(fault(b"segment 0 3 0 0"), Some(Fault::OutOfRange));
+        assert_eq!(operands(b"page_size ffffffff"), [u64::from(u32::MAX)]);
+        assert_eq!(fault(b"page_size 100000000"), Some(Fault::OutOfRange));
+        assert_eq!(fault(b"lookup 0 100 0"), Some(Fault::OutOfRange));
     }
 
     #[test]

@@ -93,6 +93,31 @@ mod tests {
         assert_eq!(text(trace), answers);
     }
 
+    /// A lookup says whether it is uncached, a translation whether it is cached.
+    #[test]
+    fn words_of_translations() {
+        let trace = b"access\nsegment ffffffff80000004 0 0 0\nsegment 0 2 0 0\n\
+                      segment 80000000 2 0 0\nmtc0 2 52\nwrite_entry 0\nlookup 5 0 0\n\
+                      translate_via 5 0 0 2 0 0\nlookup 5 0 1\nlookup 1005 0 0\n\
+                      translate_via 2000 0 0 2 0 0\ntranslate_via 80000000 0 0 2 0 0";
+        let answers = "access 0000000000000000 0 1\ndirect 0000000000000004 1\nmapped\n\
+                       address\nok\nok\nat 0000000000001005 1\n\
+                       at 0000000000001005 0\nmodified\ninvalid\n\
+                       refill\naddress";
+        assert_eq!(text(trace), answers);
+    }
+
+    #[test]
+    fn entry_numbers_are_written_modulo_32() {
+        let trace = b"dmtc0 a c000000000004007\nmtc0 2 57\nmtc0 3 8f\nwrite_entry 21\nentry ffe1";
+        let answers = "ok\nok\nok\nok\n\
+                       entry 0000000000000001 0000000000000000 0000000000004000 \
+                       0000000000000007 1 0000000000000003 \
+                       0000000000000001 0000000000000002 1 1 \
+                       0000000000000002 0000000000000001 1 1";
+        assert_eq!(text(trace), answers);
+    }
+
     #[test]
     fn the_limit() {
         let mut trace = b"timer_edge\n#".to_vec();

@@ -3,35 +3,31 @@ ghost use Prim.Native.Nat.{_≤_};
 ghost use lib.ListN.{length};
 use crate::output::put;
 use crate::request::Fault;
+use crate::session::Session;
 use crate::step::Answer;
+use crate::step::Place;
+use addr::Access;
+use addr::Mode;
 use cop0::Cop0;
+use tlb::Entry;
+use tlb::Tlb;
+use tlb::TlbFault;
 
-// An operation's answer, with the registers as they are after it.
-pub fn write(out: &mut [u8], used: usize, answer: Answer, c: Cop0) -> usize
+// An operation's answer, with the session as it is after it.
+pub fn write(out: &mut [u8], used: usize, answer: Answer, s: Session) -> usize
     requires { ⌜ used ≤ length (now out) ⌝ }
     ensures { λ r. ⌜ r ≤ length (now (out .exit)) ⌝ }
 {
     match answer {
         Answer::Done => put(out, used, b"ok\n"),
-        Answer::Number(value) => {
-            let used = put(out, used, b"=");
-            let used = number(out, used, value);
-            put(out, used, b"\n")
-        }
-        Answer::Flag(is) => {
-            let used = put(out, used, b"= ");
-            flag(out, used, is)
-        }
-        Answer::Edge(is) => {
-            let used = put(out, used, b"edge ");
-            flag(out, used, is)
-        }
-        Answer::Refused(k) => {
-            let used = put(out, used, b"refused ");
-            let used = decimal(out, used, k as u64);
-            put(out, used, b"\n")
-        }
-        Answer::State => state(out, used, c),
+        Answer::Number(value) => line(out, used, b"=", b"n", &[value]),
+        Answer::Flag(is) => line(out, used, b"=", b"f", &[is as u64]),
+        Answer::Edge(is) => line(out, used, b"edge", b"f", &[is as u64]),
+        Answer::Refused(k) => refused(out, used, k),
+        Answer::Place(place) => of_place(out, used, place),
+        Answer::Entry(i, e) => of_entry(out, used, i, e),
+        Answer::Access(access) => of_access(out, used, access),
+        Answer::State => of_state(out, used, s),
     }
 }
 
@@ -50,8 +46,93 @@ pub fn write_fault(out: &mut [u8], used: usize, line: u64, fault: Fault) -> usiz
     }
 }
 
-// All that a run works on: the registers as stored, and the clock.
-fn state(out: &mut [u8], used: usize, c: Cop0) -> usize
+fn refused(out: &mut [u8], used: usize, k: u8) -> usize
+    requires { ⌜ used ≤ length (now out) ⌝ }
+    ensures { λ r. ⌜ r ≤ length (now (out .exit)) ⌝ }
+{
+    let used = put(out, used, b"refused ");
+    let used = decimal(out, used, k as u64);
+    put(out, used, b"\n")
+}
+
+fn of_place(out: &mut [u8], used: usize, place: Place) -> usize
+    requires { ⌜ used ≤ length (now out) ⌝ }
+    ensures { λ r. ⌜ r ≤ length (now (out .exit)) ⌝ }
+{
+    match place {
+        Place::At(addr, is) => line(out, used, b"at", b"nf", &[addr as u64, is as u64]),
+        Place::Direct(addr, is) => line(out, used, b"direct", b"nf", &[addr as u64, is as u64]),
+        Place::Mapped => put(out, used, b"mapped\n"),
+        Place::AddressError => put(out, used, b"address\n"),
+        Place::Fault(fault) => of_fault(out, used, fault),
+    }
+}
+
+fn of_fault(out: &mut [u8], used: usize, fault: TlbFault) -> usize
+    requires { ⌜ used ≤ length (now out) ⌝ }
+    ensures { λ r. ⌜ r ≤ length (now (out .exit)) ⌝ }
+{
+    match fault {
+        TlbFault::Refill => put(out, used, b"refill\n"),
+        TlbFault::Invalid => put(out, used, b"invalid\n"),
+        TlbFault::Modified => put(out, used, b"modified\n"),
+    }
+}
+
+fn of_entry(out: &mut [u8], used: usize, i: u64, e: Entry) -> usize
+    requires { ⌜ used ≤ length (now out) ⌝ }
+    ensures { λ r. ⌜ r ≤ length (now (out .exit)) ⌝ }
+{
+    let even = e.lo0;
+    let odd = e.lo1;
+    let values = [
+        i,
+        e.page_mask as u64,
+        e.vpn2,
+        e.asid as u64,
+        e.global as u64,
+        e.region as u64,
+        even.pfn as u64,
+        even.c as u64,
+        even.dirty as u64,
+        even.valid as u64,
+        odd.pfn as u64,
+        odd.c as u64,
+        odd.dirty as u64,
+        odd.valid as u64,
+    ];
+    line(out, used, b"entry", b"nnnnfnnnffnnff", &values)
+}
+
+fn of_access(out: &mut [u8], used: usize, access: Access) -> usize
+    requires { ⌜ used ≤ length (now out) ⌝ }
+    ensures { λ r. ⌜ r ≤ length (now (out .exit)) ⌝ }
+{
+    let mode = access.mode;
+    let values = [mode_number(mode), access.wide as u64, access.erl as u64];
+    line(out, used, b"access", b"nff", &values)
+}
+
+fn mode_number(mode: Mode) -> u64 {
+    match mode {
+        Mode::Kernel => 0,
+        Mode::Supervisor => 1,
+        Mode::User => 2,
+    }
+}
+
+// All that a run works on.
+fn of_state(out: &mut [u8], used: usize, s: Session) -> usize
+    requires { ⌜ used ≤ length (now out) ⌝ }
+    ensures { λ r. ⌜ r ≤ length (now (out .exit)) ⌝ }
+{
+    let used = of_registers(out, used, s.cop0);
+    let used = of_micro(out, used, s.tlb);
+    of_entries(out, used, s.tlb)
+}
+
+// The registers as stored, and the clock.
+fn of_registers(out: &mut [u8], used: usize, c: Cop0) -> usize
     requires { ⌜ used ≤ length (now out) ⌝ }
     ensures { λ r. ⌜ r ≤ length (now (out .exit)) ⌝ }
 {
@@ -64,35 +145,72 @@ fn state(out: &mut [u8], used: usize, c: Cop0) -> usize
         c.ec as u64,
         c.write_latch,
     ];
-    let used = put(out, used, b"regs");
-    let used = numbers(out, used, &regs);
-    let used = put(out, used, b"\nclock");
-    let used = numbers(out, used, &clock);
-    put(out, used, b"\n")
+    let used = line(out, used, b"regs", b"", &regs);
+    line(out, used, b"clock", b"", &clock)
 }
 
-fn numbers(out: &mut [u8], used: usize, values: &[u64]) -> usize
+// The micro-TLB, and whether the table is shut down.
+fn of_micro(out: &mut [u8], used: usize, t: Tlb) -> usize
+    requires { ⌜ used ≤ length (now out) ⌝ }
+    ensures { λ r. ⌜ r ≤ length (now (out .exit)) ⌝ }
+{
+    let slots = t.itlb;
+    let values = [
+        slots[0] as u64,
+        slots[1] as u64,
+        t.itlb_lru as u64,
+        t.shutdown as u64,
+    ];
+    line(out, used, b"itlb", b"nnnf", &values)
+}
+
+fn of_entries(out: &mut [u8], used: usize, t: Tlb) -> usize
     requires { ⌜ used ≤ length (now out) ⌝ }
     ensures { λ r. ⌜ r ≤ length (now (out .exit)) ⌝ }
 {
     let mut held = used;
     let mut i = 0;
-    while i < values.len() {
-        held = number(out, held, values[i]);
+    while i < 32 {
+        held = of_entry(out, held, i as u64, t.entry(i));
         i += 1;
     }
     held
 }
 
-// A space and a number, always in 16 digits.
-fn number(out: &mut [u8], used: usize, value: u64) -> usize
+// A line of a word and values. A value is a flag where its letter in `kinds` is `f`, and a number where it is another or
+// there is none.
+fn line(out: &mut [u8], used: usize, word: &[u8], kinds: &[u8], values: &[u64]) -> usize
     requires { ⌜ used ≤ length (now out) ⌝ }
     ensures { λ r. ⌜ r ≤ length (now (out .exit)) ⌝ }
 {
-    let mut digits = [0u8; 16];
-    let n = io::hex(value, 16, &mut digits);
+    let mut held = put(out, used, word);
+    let mut i = 0;
+    while i < values.len() {
+        held = digits(out, held, values[i], width(kinds, i));
+        i += 1;
+    }
+    put(out, held, b"\n")
+}
+
+// How many digits value `i` has: a number always has 16.
+fn width(kinds: &[u8], i: usize) -> usize {
+    if i < kinds.len() {
+        if kinds[i] == b'f' {
+            return 1;
+        }
+    }
+    16
+}
+
+// A space and a value.
+fn digits(out: &mut [u8], used: usize, value: u64, width: usize) -> usize
+    requires { ⌜ used ≤ length (now out) ⌝ }
+    ensures { λ r. ⌜ r ≤ length (now (out .exit)) ⌝ }
+{
+    let mut text = [0u8; 16];
+    let n = io::hex(value, width, &mut text);
     let used = put(out, used, b" ");
-    put(out, used, &digits[..n])
+    put(out, used, &text[..n])
 }
 
 fn decimal(out: &mut [u8], used: usize, value: u64) -> usize
@@ -102,15 +220,4 @@ fn decimal(out: &mut [u8], used: usize, value: u64) -> usize
     let mut digits = [0u8; 20];
     let n = io::decimal(value, &mut digits);
     put(out, used, &digits[..n])
-}
-
-// A flag, which ends its line.
-fn flag(out: &mut [u8], used: usize, is: bool) -> usize
-    requires { ⌜ used ≤ length (now out) ⌝ }
-    ensures { λ r. ⌜ r ≤ length (now (out .exit)) ⌝ }
-{
-    if is {
-        return put(out, used, b"1\n");
-    }
-    put(out, used, b"0\n")
 }

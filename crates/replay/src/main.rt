@@ -1,8 +1,9 @@
-// Plays traces of COP0 operations and writes an answer to each operation (docs/TRACE.md says what a trace is).
+// Plays traces of COP0 and TLB operations and writes an answer to each operation (docs/TRACE.md says what a trace is).
 //
 // From bytes to an answer: `input` reads a trace whole, `trace` goes through it line by line, `line` finds words,
-// `operand` and `number` read the operands, `op` has the operations and their names, `request` makes one `Op` of a line,
-// `step` plays it, `answer` says what came of it, and `output` holds the text until there is much to write.
+// `operand` and `number` read the operands, `op` has the operations and their names (`register_op`, `translation_op`),
+// `request` makes one `Op` of a line, `step` plays it on the `session` (`register_step`, `translation_step`), `answer` says
+// what came of it, and `output` holds the text until there is much to write.
 mod answer;
 mod input;
 mod line;
@@ -10,9 +11,14 @@ mod number;
 mod op;
 mod operand;
 mod output;
+mod register_op;
+mod register_step;
 mod request;
+mod session;
 mod step;
 mod trace;
+mod translation_op;
+mod translation_step;
 
 ghost use Prim.Native.Nat.{_≤_};
 ghost use lib.ListN.{length};

@@ -7,7 +7,7 @@ use crate::number;
 use crate::number::Number;
 
 // The most operands that an operation takes.
-pub const MOST: usize = 2;
+pub const MOST: usize = 6;
 
 // How many operands there are, where `MOST + 1` is any number of too many; whether all are numbers; and those numbers.
 pub struct Operands {

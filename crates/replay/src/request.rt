@@ -6,6 +6,10 @@ use crate::line::Stop;
 use crate::op::Named;
 use crate::op::Op;
 use crate::operand::Operands;
+use crate::register_op::RegisterOp;
+use crate::translation_op::TranslationOp;
+use addr::Access;
+use addr::Mode;
 
 // What is wrong with a line, in the order in which it is checked.
 pub enum Fault {
@@ -38,32 +42,79 @@ pub fn read(line: &[u8]) -> Asked {
 // The greatest number that an operand of each kind may be.
 const FLAG: u64 = 1;
 
+const MODE: u64 = 2;
+
 const BYTE: u64 = 0xff;
+
+const WORD: u64 = 0xffff_ffff;
 
 const LONG: u64 = 0xffff_ffff_ffff_ffff;
 
-// The operation of a name, looked for among those that take the same operands. A number that its operand can't hold is
-// cut short here, and `checked` then turns the line away.
+// The operation of a name: first among those without operands, then among those of one, of two and of more, with a table
+// for each kind of operands. A number that its operand can't hold is cut short on the way, and `checked` then turns the
+// line away.
 fn lookup(name: &[u8], args: Operands) -> Asked {
-    let first = args.values[0];
-    let second = args.values[1];
-    if let Named::This(op) = Op::plain(name) {
+    if let Named::This(op) = Op::whole(name) {
         return checked(op, args, &[]);
     }
-    if let Named::This(op) = Op::of_byte(name, byte(first)) {
+    if let Named::This(op) = RegisterOp::plain(name) {
+        return checked(op, args, &[]);
+    }
+    if let Named::This(op) = TranslationOp::plain(name) {
+        return checked(op, args, &[]);
+    }
+    of_one(name, args)
+}
+
+fn of_one(name: &[u8], args: Operands) -> Asked {
+    let value = args.values[0];
+    if let Named::This(op) = RegisterOp::of_byte(name, byte(value)) {
         return checked(op, args, &[BYTE]);
     }
-    if let Named::This(op) = Op::of_byte_long(name, byte(first), second) {
-        return checked(op, args, &[BYTE, LONG]);
-    }
-    if let Named::This(op) = Op::of_byte_flag(name, byte(first), flag(second)) {
-        return checked(op, args, &[BYTE, FLAG]);
-    }
-    if let Named::This(op) = Op::of_long(name, first) {
+    if let Named::This(op) = RegisterOp::of_long(name, value) {
         return checked(op, args, &[LONG]);
     }
-    if let Named::This(op) = Op::of_long_long(name, first, second) {
+    if let Named::This(op) = TranslationOp::of_word(name, word(value)) {
+        return checked(op, args, &[WORD]);
+    }
+    if let Named::This(op) = TranslationOp::of_long(name, value) {
+        return checked(op, args, &[LONG]);
+    }
+    of_two(name, args)
+}
+
+fn of_two(name: &[u8], args: Operands) -> Asked {
+    let first = args.values[0];
+    let second = args.values[1];
+    if let Named::This(op) = RegisterOp::of_byte_long(name, byte(first), second) {
+        return checked(op, args, &[BYTE, LONG]);
+    }
+    if let Named::This(op) = RegisterOp::of_byte_flag(name, byte(first), flag(second)) {
+        return checked(op, args, &[BYTE, FLAG]);
+    }
+    if let Named::This(op) = RegisterOp::of_long_long(name, first, second) {
         return checked(op, args, &[LONG, LONG]);
+    }
+    if let Named::This(op) = TranslationOp::of_long_byte(name, first, byte(second)) {
+        return checked(op, args, &[LONG, BYTE]);
+    }
+    of_more(name, args)
+}
+
+fn of_more(name: &[u8], args: Operands) -> Asked {
+    let v = args.values;
+    let asid = byte(v[1]);
+    let store = flag(v[2]);
+    if let Named::This(op) = TranslationOp::of_long_byte_flag(name, v[0], asid, store) {
+        return checked(op, args, &[LONG, BYTE, FLAG]);
+    }
+    let access = access_of(v[1], v[2], v[3]);
+    if let Named::This(op) = TranslationOp::of_long_access(name, v[0], access) {
+        return checked(op, args, &[LONG, MODE, FLAG, FLAG]);
+    }
+    let access = access_of(v[3], v[4], v[5]);
+    if let Named::This(op) = TranslationOp::of_all(name, v[0], asid, store, access) {
+        return checked(op, args, &[LONG, BYTE, FLAG, MODE, FLAG, FLAG]);
     }
     Asked::Wrong(Fault::UnknownOperation)
 }
@@ -72,8 +123,29 @@ fn byte(value: u64) -> u8 {
     (value % 256) as u8
 }
 
+fn word(value: u64) -> u32 {
+    (value % 0x1_0000_0000) as u32
+}
+
 fn flag(value: u64) -> bool {
     value == 1
+}
+
+// A mode, its width and ERL.
+fn access_of(mode: u64, wide: u64, erl: u64) -> Access {
+    Access {
+        mode: mode_of(mode),
+        wide: flag(wide),
+        erl: flag(erl),
+    }
+}
+
+fn mode_of(value: u64) -> Mode {
+    match value {
+        0 => Mode::Kernel,
+        1 => Mode::Supervisor,
+        _ => Mode::User,
+    }
 }
 
 // The operation, where there is an operand for each limit, all are numbers, and none is over its limit. Each check goes

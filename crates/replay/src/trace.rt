@@ -7,12 +7,12 @@ use crate::line::Stop;
 use crate::output;
 use crate::request;
 use crate::request::Asked;
+use crate::session::Session;
 use crate::step;
-use cop0::Cop0;
 
-// A run between two lines: the registers, how much of the output buffer is used, and whether a fault ended the run.
+// A run between two lines: the session, how much of the output buffer is used, and whether a fault ended the run.
 struct Run {
-    cop0: Cop0,
+    session: Session,
     used: usize,
     ended: bool,
 }
@@ -34,7 +34,7 @@ fn play_lines(text: &[u8], out: &mut [u8], used: usize) -> usize
     ensures { λ r. ⌜ r ≤ length (now (out .exit)) ⌝ }
 {
     let mut run = Run {
-        cop0: Cop0::new(),
+        session: Session::new(),
         used,
         ended: false,
     };
@@ -58,16 +58,16 @@ fn play_line(text: &[u8], number: u64, run: Run, out: &mut [u8]) -> Run
     requires { ⌜ run .used ≤ length (now out) ⌝ }
     ensures { λ r. ⌜ r .used ≤ length (now (out .exit)) ⌝ }
 {
-    let before = run.cop0;
+    let before = run.session;
     match request::read(text) {
         Asked::Nothing => run,
         Asked::Play(op) => {
             let played = step::play(op, before);
             let answer = played.answer;
-            let after = played.cop0;
+            let after = played.session;
             let used = answer::write(out, run.used, answer, after);
             Run {
-                cop0: after,
+                session: after,
                 used,
                 ended: false,
             }
@@ -75,7 +75,7 @@ fn play_line(text: &[u8], number: u64, run: Run, out: &mut [u8]) -> Run
         Asked::Wrong(fault) => {
             let used = answer::write_fault(out, run.used, number, fault);
             Run {
-                cop0: before,
+                session: before,
                 used,
                 ended: true,
             }

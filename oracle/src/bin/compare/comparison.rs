@@ -10,13 +10,13 @@ use oracle::play::play;
 use crate::judge::{judge, sections, Difference, Tally};
 use crate::options::{repository, Options};
 use crate::rng::Rng;
-use crate::{malformed, mixed, sweeps};
+use crate::{malformed, mixed, sweeps, translation};
 
 /// Traces that the program is given at a time.
 const BATCH: usize = 32;
 
 /// Traces after which the kinds of trace come again.
-const ROUND: u64 = 14;
+const ROUND: u64 = 16;
 
 /// Where a trace that differs is kept, from the repository's root.
 const KEPT: &str = "target/compare";
@@ -40,8 +40,10 @@ impl Trace {
         };
         let text = once.unwrap_or_else(|| match number % ROUND {
             1 | 2 => malformed::malformed(rng, round),
-            3 | 4 => mixed::cut_advances(rng, operations),
-            _ => mixed::session(rng, operations),
+            3 => mixed::cut_advances(rng, operations),
+            4 | 5 => mixed::session(rng, operations),
+            6..=9 => translation::wild(rng, operations),
+            _ => translation::tame(rng, operations),
         });
         Self { name: format!("{seed:x}-{number}.trace"), text }
     }
@@ -90,6 +92,9 @@ impl Comparison {
         println!("{} of the traces on standard input as well", self.inputs);
         for (name, number) in self.tally.rows() {
             println!("  {name:<30}{number:>9}");
+            for (kind, number) in self.tally.kinds(name) {
+                println!("    {kind:<28}{number:>9}");
+            }
         }
     }
 

@@ -7,7 +7,7 @@ use oracle::parse::{lines, parse};
 use crate::rng::Rng;
 
 /// Between two lines `state` stand about this many operations: a divergence shows near its cause.
-const BETWEEN_STATES: u64 = 20;
+const BETWEEN_STATES: u64 = 40;
 
 pub struct Draft {
     pub rng: Rng,

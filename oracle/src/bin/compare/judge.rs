@@ -1,18 +1,27 @@
 //! Holds what a program answered to what the original answers.
 
-use std::collections::HashMap;
+use std::collections::{BTreeMap, HashMap};
 
 use oracle::operations::OPERATIONS;
 use oracle::parse::{lines, Fault};
 use oracle::play::{play, Answer, TOO_LONG};
 
-/// How often each operation and each fault was compared.
+/// How often each operation and each fault was compared, by the kinds of answer.
 #[derive(Default)]
-pub struct Tally(HashMap<&'static str, u64>);
+pub struct Tally(HashMap<&'static str, BTreeMap<String, u64>>);
 
 impl Tally {
     pub fn total(&self) -> u64 {
-        self.0.values().sum()
+        self.0.values().flat_map(BTreeMap::values).sum()
+    }
+
+    fn add(&mut self, answer: &Answer) {
+        let kind = kind(&answer.text);
+        let kinds = self.0.entry(answer.asked).or_default();
+        match kinds.get_mut(kind) {
+            Some(number) => *number += 1,
+            None => drop(kinds.insert(kind.into(), 1)),
+        }
     }
 
     /// A row for each operation and each fault, those that never came among them.
@@ -20,8 +29,24 @@ impl Tally {
         let operations = OPERATIONS.iter().map(|row| row.name);
         let faults = Fault::ALL.iter().map(|fault| fault.words());
         let names = operations.chain(faults).chain([TOO_LONG]);
-        names.map(|name| (name, self.0.get(name).copied().unwrap_or(0)))
+        names.map(|name| (name, self.0.get(name).map_or(0, |kinds| kinds.values().sum())))
     }
+
+    /// The kinds of an operation's answers, where it has more than one. A fault's answers have
+    /// their lines in them, and are not told apart.
+    pub fn kinds(&self, name: &str) -> impl Iterator<Item = (&str, u64)> {
+        let kinds = OPERATIONS.iter().any(|row| row.name == name).then(|| self.0.get(name));
+        let kinds = kinds.flatten().filter(|kinds| kinds.len() > 1);
+        kinds.into_iter().flatten().map(|(kind, number)| (kind.as_str(), *number))
+    }
+}
+
+/// An answer without its numbers: `at`, `refill`, `= 1`, `refused 4`.
+fn kind(text: &str) -> &str {
+    const NUMBER: usize = 16;
+    let words = text.split([' ', '\n']);
+    let words = words.take_while(|word| word.len() < NUMBER);
+    &text[..words.map(|word| word.len() + 1).sum::<usize>().saturating_sub(1)]
 }
 
 /// Where a program and the original part.
@@ -45,7 +70,7 @@ pub fn judge(trace: &[u8], wrote: &[u8], tally: &mut Tally) -> Option<Difference
             return Some(differ(trace, &answer, rest));
         };
         rest = after;
-        *tally.0.entry(answer.asked).or_default() += 1;
+        tally.add(&answer);
     }
     let more = lines(rest).next()?;
     let original = "nothing more".into();
@@ -87,8 +112,14 @@ fn word(ours: &str, theirs: &str) -> Option<(String, String)> {
     let theirs: Vec<&str> = theirs.strip_suffix('\n')?.split(' ').collect();
     let alike = ours.len() > LINE_OF_FIELDS && ours.len() == theirs.len() && ours[0] == theirs[0];
     let at = (1..ours.len()).find(|at| alike && ours[*at] != theirs[*at])?;
-    let place = format!("{}[{}]", ours[0], at - 1);
+    let place = format!("{}[{}]{}", ours[0], at - 1, of_entry(&ours));
     Some((format!("{place} {}", ours[at]), format!("{place} {}", theirs[at])))
+}
+
+/// Which of the entries a line shows.
+fn of_entry(words: &[&str]) -> String {
+    let number = u64::from_str_radix(words[1], 16).ok().filter(|_| words[0] == "entry");
+    number.map_or(String::new(), |number| format!(" of {number}"))
 }
 
 /// A line fit to be printed: other bytes as escapes, and not too long.
@@ -170,6 +201,22 @@ mod tests {
         let wrong = state.replace("400004", "400005");
         let status = |last| format!("regs[12] 000000000040000{last}");
         assert_eq!(differs(b"state", wrong.as_bytes()), Some((1, status(4), status(5))));
+        let wrong = state.replace("fffffc0000", "fffffd0000");
+        let vpn2 = |digit| format!("entry[2] of 31 000000fffff{digit}0000");
+        assert_eq!(differs(b"state", wrong.as_bytes()), Some((1, vpn2('c'), vpn2('d'))));
+    }
+
+    #[test]
+    fn kinds_of_answers() {
+        assert_eq!(kind("at 0000000000000005 1"), "at");
+        assert_eq!(kind("= 0000000000000005"), "=");
+        assert_eq!(kind("= 1"), "= 1");
+        assert_eq!(kind("refill"), "refill");
+        assert_eq!(kind("refused 4"), "refused 4");
+        let mut tally = Tally::default();
+        judge(b"timer_edge\naccess", b"= 0\naccess 0000000000000000 0 1\n", &mut tally);
+        assert_eq!(tally.total(), 2);
+        assert_eq!(tally.kinds("access").count(), 0);
     }
 
     #[test]

@@ -1,5 +1,6 @@
 //! Plays random traces on the original and on `replay`, and reports the first difference.
 
+mod addresses;
 mod aim;
 mod comparison;
 mod draft;
@@ -9,6 +10,7 @@ mod mixed;
 mod options;
 mod rng;
 mod sweeps;
+mod translation;
 
 use std::env;
 use std::process::ExitCode;

@@ -1,11 +1,10 @@
 //! Traces with something wrong in them, or something odd that must not count as wrong.
 
-use oracle::operations::{Operation, OPERATIONS};
+use oracle::operations::{find, Operation, OPERATIONS};
 use oracle::parse::{Operand, LIMIT};
 
-use crate::aim;
-use crate::mixed;
 use crate::rng::Rng;
+use crate::{aim, mixed, translation};
 
 type Kind = fn(&mut Rng) -> Vec<u8>;
 
@@ -84,7 +83,8 @@ fn insert(rng: &mut Rng, line: &[u8]) -> Vec<u8> {
 
 fn good(rng: &mut Rng) -> Vec<u8> {
     let operations = 1 + rng.index(40);
-    mixed::session(Rng::new(rng.next(), 0), operations)
+    let session = rng.pick(&[mixed::session, translation::tame]);
+    session(Rng::new(rng.next(), 0), operations)
 }
 
 /// An operation that takes a number at least, and good operands for it.
@@ -189,7 +189,8 @@ fn exceed(rng: &mut Rng, operation: &Operation, operands: &mut [Vec<u8>]) {
 
 /// Two faults in one line: the first kind in the order of checks is the one to report.
 fn several_faults(rng: &mut Rng) -> Vec<u8> {
-    let operation = oracle::operations::find(b"set_ip").expect("an operation with two bounds");
+    let name = rng.pick(&["set_ip", "translate_via"]);
+    let operation = find(name.as_bytes()).expect("an operation with two bounds");
     let mut operands = good_operands(rng, operation);
     exceed(rng, operation, &mut operands);
     if rng.flag() {
@@ -200,8 +201,8 @@ fn several_faults(rng: &mut Rng) -> Vec<u8> {
     if rng.one_in(3) {
         operands.push(b"0".to_vec());
     }
-    let name: &[u8] = rng.pick(&[b"set_ip", b"set_ip", b"set_ip", b"set-ip"]);
-    line(name, &operands)
+    let name = if rng.one_in(4) { name.replace('_', "-") } else { name.into() };
+    line(name.as_bytes(), &operands)
 }
 
 fn stray_return(rng: &mut Rng) -> Vec<u8> {

@@ -1,4 +1,4 @@
-//! Random sessions: moves picked by weight, each aimed at the state so far.
+//! Random sessions on the register file: moves picked by weight, each aimed at the state so far.
 
 use original::cop0::reg;
 
@@ -12,7 +12,7 @@ const ALL_WRITES: [&str; 4] = ["mtc0", "dmtc0", "write", "set_hardware"];
 const POLLS: [&str; 5] =
     ["timer_edge", "timer_matches", "count", "count_now", "count_ticks_until_timer_match"];
 
-type Move = fn(&mut Draft);
+pub type Move = fn(&mut Draft);
 
 /// How often each move is made, against the others.
 const MOVES: [(u64, Move); 12] = [
@@ -35,7 +35,7 @@ pub fn session(mut rng: Rng, operations: usize) -> Vec<u8> {
     let dress = if rng.one_in(4) { Dress::Fancy } else { Dress::Plain };
     let mut draft = Draft::new(rng, dress);
     while draft.operations < operations {
-        a_move(&mut draft.rng)(&mut draft);
+        any_move(&mut draft);
     }
     draft.finish()
 }
@@ -49,11 +49,16 @@ pub fn cut_advances(rng: Rng, operations: usize) -> Vec<u8> {
     draft.finish()
 }
 
-fn a_move(rng: &mut Rng) -> Move {
-    let mut at = rng.below(MOVES.iter().map(|(weight, _)| weight).sum());
-    for (weight, chosen) in MOVES {
-        if at < weight {
-            return chosen;
+pub fn any_move(draft: &mut Draft) {
+    a_move(&mut draft.rng, &MOVES)(draft);
+}
+
+/// A move of a table, by its weight.
+pub fn a_move(rng: &mut Rng, moves: &[(u64, Move)]) -> Move {
+    let mut at = rng.below(moves.iter().map(|(weight, _)| weight).sum());
+    for (weight, chosen) in moves {
+        if at < *weight {
+            return *chosen;
         }
         at -= weight;
     }

@@ -2,25 +2,39 @@
 
 use original::cop0::reg;
 
-use crate::aim;
 use crate::draft::{Draft, Dress};
 use crate::rng::Rng;
+use crate::{addresses, aim};
 
-const SINGLE: [fn(&mut Draft); 3] = [every_number, every_interrupt, every_edge];
+const SINGLE: [fn(&mut Draft); 8] = [
+    every_number,
+    every_interrupt,
+    every_edge,
+    every_segment,
+    every_access,
+    every_field,
+    every_half,
+    every_compared_bit,
+];
 const WIRED_VALUES: u64 = 64;
 const REGISTERS: u64 = 32;
+/// The upper six bits of a page mask; a sweep goes through the lower six.
+const UPPER_MASKS: u64 = 64;
 
 /// The sweep of a number, as long as there are any.
 pub fn sweep(number: u64) -> Option<Vec<u8>> {
     let mut draft = Draft::new(Rng::new(0, number), Dress::Plain);
     let walks = SINGLE.len() as u64;
     let bits = walks + WIRED_VALUES;
+    let masks = bits + REGISTERS;
     if number < walks {
         SINGLE[number as usize](&mut draft);
     } else if number < bits {
         every_walk(&mut draft, number - walks);
-    } else if number < bits + REGISTERS {
+    } else if number < masks {
         every_bit(&mut draft, number - bits);
+    } else if number < masks + UPPER_MASKS {
+        every_mask(&mut draft, number - masks);
     } else {
         return None;
     }
@@ -93,6 +107,104 @@ fn every_edge(draft: &mut Draft) {
                 draft.put("advance", &[1, 0]);
                 draft.put("count_ticks_until_timer_match", &[]);
             }
+        }
+    }
+}
+
+/// Each segment's limits and their neighbours, in each mode and width, with and without ERL.
+fn every_segment(draft: &mut Draft) {
+    for limit in addresses::limits() {
+        for vaddr in [limit.wrapping_sub(1), limit, limit + 1] {
+            for access in 0..12 {
+                let (mode, wide, erl) = (access / 4, access / 2 % 2, access % 2);
+                draft.put("segment", &[vaddr, mode, wide, erl]);
+                draft.put("translate_via", &[vaddr, 0, 0, mode, wide, erl]);
+            }
+        }
+    }
+}
+
+/// Each mode, width and level of Status, and each of its bits.
+fn every_access(draft: &mut Draft) {
+    let bits = (0..64).flat_map(|bit| [1 << bit, !(1 << bit)]);
+    for status in (0..256).chain(bits) {
+        draft.put("set_hardware", &[reg::STATUS.into(), status]);
+        draft.put("access", &[]);
+    }
+}
+
+/// Each bit of the registers that an entry is written from, alone and missing alone, into an entry
+/// and back; the entries' numbers go on over 31.
+fn every_field(draft: &mut Draft) {
+    let mut number = 0;
+    for register in [reg::ENTRY_HI, reg::PAGE_MASK, reg::ENTRY_LO0, reg::ENTRY_LO1] {
+        for bit in 0..64 {
+            for value in [1 << bit, !(1 << bit)] {
+                number += 1;
+                draft.put("dmtc0", &[register.into(), value]);
+                draft.put("write_entry", &[number]);
+                draft.put("entry", &[number % 32]);
+                draft.put("read_entry", &[number]);
+                draft.put("dmfc0", &[register.into()]);
+            }
+        }
+    }
+}
+
+/// Each C, D, V and G of both halves, against loads and stores, an equal ASID and another.
+fn every_half(draft: &mut Draft) {
+    draft.put("dmtc0", &[reg::ENTRY_HI.into(), 0x12_3456_6055]);
+    for bits in 0..128 {
+        let (even, odd) = (bits & 0x3F, bits >> 6 | (!bits & 0x3E));
+        draft.put("mtc0", &[reg::ENTRY_LO0.into(), 0x155_5540 | even]);
+        draft.put("mtc0", &[reg::ENTRY_LO1.into(), 0x2AA_AA80 | odd]);
+        draft.put("write_entry", &[31]);
+        for access in 0..8 {
+            let vaddr = 0x12_3456_6ABC | (access & 1) << 12;
+            draft.put("lookup", &[vaddr, 0x55 ^ (access >> 1 & 1), access >> 2]);
+        }
+    }
+}
+
+/// Each bit of an address that an entry matches, and of its ASID, turned over; in each region.
+fn every_compared_bit(draft: &mut Draft) {
+    draft.put("mtc0", &[reg::ENTRY_LO0.into(), 0x1F]);
+    draft.put("mtc0", &[reg::PAGE_MASK.into(), 0x6000]);
+    for region in 0..4 {
+        let vaddr = region << 62 | 0x5A_A55A_0000;
+        draft.put("dmtc0", &[reg::ENTRY_HI.into(), vaddr | 0xC3]);
+        draft.put("write_entry", &[region]);
+        for bit in 0..64 {
+            let vaddr = vaddr ^ 1 << bit;
+            draft.put("lookup", &[vaddr, 0xC3, 0]);
+            draft.put("itlb_fill", &[vaddr, 0xC3]);
+            draft.put("itlb_probe", &[vaddr, 0xC3]);
+        }
+        for bit in 0..8 {
+            draft.put("jtlb_has_match", &[vaddr, 0xC3 ^ 1 << bit]);
+        }
+    }
+}
+
+/// Each page mask with the same upper bits: what is stored, its sizes, and addresses under it.
+fn every_mask(draft: &mut Draft, upper: u64) {
+    const VADDR: u64 = 0x1A_A55A_A555;
+    draft.put("dmtc0", &[reg::ENTRY_HI.into(), VADDR]);
+    draft.put("mtc0", &[reg::ENTRY_LO0.into(), 0x2AA_AA9F]);
+    draft.put("mtc0", &[reg::ENTRY_LO1.into(), 0x155_5557]);
+    for lower in 0..64 {
+        let mask = (upper << 6 | lower) << 13;
+        draft.put("mtc0", &[reg::PAGE_MASK.into(), mask]);
+        draft.put("write_entry", &[7]);
+        draft.put("entry", &[7]);
+        draft.put("page_size", &[mask]);
+        draft.put("pair_size", &[mask]);
+        let entry = draft.machine.tlb.entry(7);
+        for _ in 0..4 {
+            let vaddr = addresses::inside(&mut draft.rng, &entry);
+            draft.put("lookup", &[vaddr, 0x55, 1]);
+            let vaddr = vaddr ^ 1 << (12 + draft.rng.below(16));
+            draft.put("lookup", &[vaddr, 0x55, 0]);
         }
     }
 }
