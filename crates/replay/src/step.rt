@@ -21,7 +21,7 @@ pub enum Answer {
 
 // Where an address leads.
 pub enum Place {
-    // A physical address, and a flag: uncached where the TLB was asked directly, and cached where a segment decided.
+    // A physical address and a flag, which says uncached for a lookup and cached for a translation.
     At(u32, bool),
     Direct(u32, bool),
     Mapped,
