@@ -1,22 +1,23 @@
 -- The entry that a probe finds is the lowest that matches, and `jtlb_has_match` agrees with the lookup.
 use mathlib.Core.Path.{_≡_, refl, ap, sym}
-use mathlib.Core.Bool.{Bool, true, false, cond}
+use mathlib.Core.Bool.{Bool, true, false, cond, false≢true}
 use mathlib.Core.List.{List, [], _∷_}
 use Prim.Native.Nat.{ℕ, zero, suc, _-_, _<_, _≤_}
 use native.Mathlib.Nat.{le-of-suc-le-suc, not-suc-le-zero, sub-zero}
 use native.Mathlib.Omega.{arith}
 use lib.Dec.{ltb}
 use lib.ListN.{length, getD}
-use borrow.Author.Tests.{ltb-false}
+use borrow.Author.Tests.{ltb-false, ltb-true}
 use Rattle.tlb.specs.declared.entries.Entry.{Entry}
 use Rattle.tlb.specs.declared.entries.TlbFault.the-variants.{Refill}
 use Rattle.tlb.specs.declared.entries.LookupAnswer.the-variants.{Fault}
 use Rattle.tlb.specs.declared.table.Tlb.{Tlb}
-use Rattle.tlb.specs.Entries.{matchesOf}
+use Rattle.tlb.specs.declared.table.Hits.{Hits}
+use Rattle.tlb.specs.Entries.{matchesOf, entryAnswer}
 use Rattle.tlb.specs.Table.{withVpn2, entryAt, matching, hitsOf}
-use Rattle.tlb.specs.Lookup.{lookupAnswer, lookupTable}
+use Rattle.tlb.specs.Lookup.{shutDown, lookupAnswer, lookupTable}
 use Rattle.tlb.specs.Micro.{lowest, hasMatchOf}
-use Rattle.tlb.proofs.Looking.{below, is-shut, nothing}
+use Rattle.tlb.proofs.Looking.{below, is-shut, clash, found, nothing}
 
 module _ (v asid : ℕ) where
   abbrev at : List Entry → ℕ → Bool
@@ -105,3 +106,31 @@ module _ (t : Tlb) (v asid : ℕ) where
           → (lookupAnswer t v asid store ≡ Fault Refill) × (lookupTable t v asid ≡ t)
       go true s p = let r = is-shut t v asid store s in (sym (r .0), sym (r .1))
       go false s p = empty s (matching (t .entries) v asid 0) refl (ltb-false _ _ p)
+
+  is-open : hasMatchOf t v asid ≡ true → (t .shutdown ≡ false) × (lowest t v asid < 32)
+  unfolding hasMatchOf
+  is-open e = go (t .shutdown) refl e
+    where
+      go : (b : Bool) → t .shutdown ≡ b → cond b false (ltb (lowest t v asid) 32) ≡ true
+          → (t .shutdown ≡ false) × (lowest t v asid < 32)
+      go true s p = absurd (false≢true p)
+      go false s p = (s, ltb-true _ _ p)
+
+  abbrev hits : Hits
+  hits = hitsOf (matching (t .entries) v asid 0)
+
+  -- where it says yes, the lookup gives the answer of the only entry that matches
+  pub match-answers : hasMatchOf t v asid ≡ true → hits .more ≡ false → (store : Bool)
+      → (lookupAnswer t v asid store ≡ entryAnswer (entryAt t (lowest t v asid)) v store) × (lookupTable t v asid ≡ t)
+  unfolding lowest
+  match-answers e m store =
+      let o = is-open e in
+      let r = found t v asid store (o .0) hits refl m (o .1) in
+      (sym (r .0), sym (r .1))
+
+  -- or, where more than one matches, shuts the table down
+  pub second-match-shuts : hasMatchOf t v asid ≡ true → hits .more ≡ true → (store : Bool)
+      → (lookupAnswer t v asid store ≡ Fault Refill) × (lookupTable t v asid ≡ shutDown t)
+  second-match-shuts e m store =
+      let r = clash t v asid store (is-open e .0) hits refl m in
+      (sym (r .0), sym (r .1))
