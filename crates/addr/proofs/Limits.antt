@@ -79,21 +79,28 @@ pub erl-narrow : each (λ (m : Mode). limits (tableOf (access m false true)) erl
 unfolding inside
 erl-narrow = refl
 
-pub erl-wide : each (λ (m : Mode). ends (tableOf (access m true true)) erlRow && alike (segmentIn (tableOf (access m true true)) (erlRow .last + 1)) Mapped) modes ≡ true
+-- a wide mode's rows go on: the first address past ERL's row is mapped
+abbrev goes-on : List Row → Bool
+goes-on rows = ends rows erlRow && alike (segmentIn rows (erlRow .last + 1)) Mapped
+
+pub erl-wide : each (λ (m : Mode). goes-on (tableOf (access m true true))) modes ≡ true
 unfolding inside
 erl-wide = refl
 
 -- P4: the top of sseg
-pub p4 : (segmentOf (access Supervisor false false) 0xFFFF_FFFF_DFFF_FFFF ≡ Mapped) × (segmentOf (access Supervisor false false) 0xFFFF_FFFF_E000_0000 ≡ Invalid)
+pub p4 : (segmentOf (access Supervisor false false) 0xFFFF_FFFF_DFFF_FFFF ≡ Mapped)
+    × (segmentOf (access Supervisor false false) 0xFFFF_FFFF_E000_0000 ≡ Invalid)
 unfolding segmentOf inside
 p4 = (refl, refl)
 
 -- P5: the top of xkseg
-pub p5 : (segmentOf (access Kernel true false) 0xC000_00FF_7FFF_FFFF ≡ Mapped) × (segmentOf (access Kernel true false) 0xC000_00FF_8000_0000 ≡ Invalid)
+pub p5 : (segmentOf (access Kernel true false) 0xC000_00FF_7FFF_FFFF ≡ Mapped)
+    × (segmentOf (access Kernel true false) 0xC000_00FF_8000_0000 ≡ Invalid)
 unfolding segmentOf inside
 p5 = (refl, refl)
 
 -- P6: an uncached window of xkphys, and the address past its top
-pub p6 : (segmentOf (access Kernel true false) 0x9000_0000_1234_5678 ≡ Direct 0x1234_5678 No) × (segmentOf (access Kernel true false) 0x9000_0001_0000_0000 ≡ Invalid)
+pub p6 : (segmentOf (access Kernel true false) 0x9000_0000_1234_5678 ≡ Direct 0x1234_5678 No)
+    × (segmentOf (access Kernel true false) 0x9000_0001_0000_0000 ≡ Invalid)
 unfolding segmentOf inside
 p6 = (refl, refl)

@@ -20,7 +20,8 @@ use Rattle.addr.proofs.Answers.{segment-one}
 module _ (t : Tlb) (v asid : ℕ) (s : Bool) (a : Access) (r : Segment) (er : toldSegment r ≡ toldSegment (segmentOf a v)) where
   pub by-segment : (g : Segment)
       → r ≡ g
-      → (toldTranslate (answerBy g (lookupAnswer t v asid s)) ≡ toldTranslate (translateAnswer t v asid s a)) × (tableBy g t (lookupTable t v asid) ≡ translateTable t v asid a)
+      → (toldTranslate (answerBy g (lookupAnswer t v asid s)) ≡ toldTranslate (translateAnswer t v asid s a))
+      × (tableBy g t (lookupTable t v asid) ≡ translateTable t v asid a)
   unfolding translateAnswer translateTable
   by-segment g e = rw (← segment-one r (segmentOf a v) er, e) (refl, refl)
 

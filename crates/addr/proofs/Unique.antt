@@ -21,7 +21,8 @@ made a t = record { answer = a; tlb = t }
 pub kernel-unique : (a : Unit {0}) (r r′ : Access) → kernel.Post tt a r a → kernel.Post tt a r′ a → r ≡ r′
 kernel-unique a r r′ = same
 
-pub from-status-unique : (a : ℕ × Unit {0}) (r r′ : AccessAnswer) → from-status.Post tt a r a → from-status.Post tt a r′ a → r ≡ r′
+pub from-status-unique : (a : ℕ × Unit {0}) (r r′ : AccessAnswer) → from-status.Post tt a r a
+    → from-status.Post tt a r′ a → r ≡ r′
 from-status-unique a r r′ p q = access-one r r′ (same p q)
 
 pub segment-unique : (a : Access × (ℕ × Unit {0})) (r r′ : Segment) → segment.Post tt a r a → segment.Post tt a r′ a → r ≡ r′

@@ -35,7 +35,8 @@ pub struct Translation {
 
 // Translates an address. The table comes back as the lookup left it, since a second match shuts it down.
 pub fn translate_via(tlb: Tlb, vaddr: u64, asid: u8, store: bool, access: Access) -> Translation
-    ensures { λ r. ⌜ (toldTranslate (r .answer) ≡ toldTranslate (translateAnswer tlb vaddr asid store access)) × (r .tlb ≡ translateTable tlb vaddr asid access) ⌝ }
+    ensures { λ r. ⌜ (toldTranslate (r .answer) ≡ toldTranslate (translateAnswer tlb vaddr asid store access))
+        × (r .tlb ≡ translateTable tlb vaddr asid access) ⌝ }
 {
     match access.segment(vaddr) {
         Segment::Direct { addr, cached } => Translation {

@@ -119,7 +119,8 @@ merged-none zero x y h = omega arith
 merged-none (suc n) x y h =
     ap (λ (a : ℕ). a * 2 + y % 2) (merged-none n (x / 2) (y / 2) (omega (arith, pow-suc 2 n))) ∙ omega arith
 
-merged-suc : (n m x y : ℕ) → mergedBits (suc n) m x y ≡ mergedBits n (m / 2) (x / 2) (y / 2) * 2 + cond (eqb (m % 2) 1) (x % 2) (y % 2)
+merged-suc : (n m x y : ℕ)
+    → mergedBits (suc n) m x y ≡ mergedBits n (m / 2) (x / 2) (y / 2) * 2 + cond (eqb (m % 2) 1) (x % 2) (y % 2)
 unfolding mergedBits
 merged-suc n m x y = refl
 
@@ -148,7 +149,15 @@ merged-shift zero n m x y = rw (zero-add n, mul-one m, mul-one x, mul-one y) (sy
 merged-shift (suc j) n m x y =
     rw (suc-add j n)
     (merged-suc (j + n) (m * 2 ^ suc j) (x * 2 ^ suc j) (y * 2 ^ suc j)
-    ∙ rw (shifted-half m j, shifted-half x j, shifted-half y j, shifted-even m j, shifted-even y j, merged-shift j n m x y, pow-suc 2 j)
+    ∙ rw (
+      shifted-half m j,
+      shifted-half x j,
+      shifted-half y j,
+      shifted-even m j,
+      shifted-even y j,
+      merged-shift j n m x y,
+      pow-suc 2 j,
+    )
     (omega (arith, mul-assoc (mergedBits n m x y) (2 ^ j) 2)))
 
 -- what is left of y when bits are cleared is no more than y

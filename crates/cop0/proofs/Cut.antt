@@ -60,7 +60,8 @@ runs-are (p ∷ ps) c k e h =
     ∙ sym (steps-add m (allMoves ps) (ticks (allCounts ps) (ticks n c)))
     ∙ ap (steps (m + allMoves ps)) (sym (ticks-add n (allCounts ps) c))
 
-run-edges-are : (ps : List Piece) (c : Cop0) → Kept c → sixBit c ≡ c → allCounts ps < 2 ^ 32 → runEdges ps c ≡ edges (allCounts ps) c
+run-edges-are : (ps : List Piece) (c : Cop0) → Kept c → sixBit c ≡ c → allCounts ps < 2 ^ 32
+    → runEdges ps c ≡ edges (allCounts ps) c
 unfolding runEdges allCounts edges
 run-edges-are [] c k e h = refl
 run-edges-are (p ∷ ps) c k e h =

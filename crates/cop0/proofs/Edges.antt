@@ -29,10 +29,12 @@ edge-start d = go (decLe 1 d)
     go (no h) = edge-none d 0 (omega arith)
 
 -- the tick on which Count becomes Compare is the only edge: none follows it within fewer than 2^32
-pub hit-after : (cnt cmp n : ℕ) → cmp < 2 ^ 32 → (cnt + 1) % 2 ^ 32 ≡ cmp → edgeIn (less 32 cmp ((cnt + 1) % 2 ^ 32)) n ≡ false
+pub hit-after : (cnt cmp n : ℕ) → cmp < 2 ^ 32 → (cnt + 1) % 2 ^ 32 ≡ cmp
+    → edgeIn (less 32 cmp ((cnt + 1) % 2 ^ 32)) n ≡ false
 hit-after cnt cmp n h e = edge-none (less 32 cmp ((cnt + 1) % 2 ^ 32)) n (omega arith)
 
-pub hit-before : (cnt cmp n : ℕ) → cnt < 2 ^ 32 → cmp < 2 ^ 32 → (cnt + 1) % 2 ^ 32 ≡ cmp → edgeIn (less 32 cmp cnt) (suc n) ≡ true
+pub hit-before : (cnt cmp n : ℕ) → cnt < 2 ^ 32 → cmp < 2 ^ 32 → (cnt + 1) % 2 ^ 32 ≡ cmp
+    → edgeIn (less 32 cmp cnt) (suc n) ≡ true
 hit-before cnt cmp n h₁ h₂ e = edge-yes (less 32 cmp cnt) (suc n) (omega arith) (omega arith)
 
 -- a tick on which it does not leaves the question to the ticks after it

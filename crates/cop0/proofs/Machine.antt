@@ -33,7 +33,8 @@ jumped c n b =
     (countAt ((c .now + n) % 2 ^ 64) (c .«count_epoch_value») (c .«count_epoch_tick»))
     (c .«write_latch»)
 
-raise-put : (c : Cop0) (rs : List ℕ) (t v k l w : ℕ) (b : Bool) → raisedIf b (put c rs t v k l w) ≡ put c (raisedIn b rs) t v k l w
+raise-put : (c : Cop0) (rs : List ℕ) (t v k l w : ℕ) (b : Bool)
+    → raisedIf b (put c rs t v k l w) ≡ put c (raisedIn b rs) t v k l w
 unfolding raisedIn setIpOf
 raise-put c rs t v k l w true = refl
 raise-put c rs t v k l w false = refl
@@ -84,7 +85,10 @@ module _ (c : Cop0) (n : ℕ) (fits : suc n < 2 ^ 32) where
   to-go : (b : Bool) → toGo (jumped c 1 b) ≡ less 32 (compareOf c) ((countOf c + 1) % 2 ^ 32)
   unfolding jumped
   to-go b =
-      rw (other-raised (c .regs) Compare b (omega arith), count-moves (c .now) (c .«count_epoch_value») (c .«count_epoch_tick») 1)
+      rw (
+        other-raised (c .regs) Compare b (omega arith),
+        count-moves (c .now) (c .«count_epoch_value») (c .«count_epoch_tick») 1,
+      )
 
   hit : becomes c ≡ true → (countOf c + 1) % 2 ^ 32 ≡ compareOf c
   hit e = sym next-count ∙ eqb-true _ _ e
@@ -96,12 +100,20 @@ module _ (c : Cop0) (n : ℕ) (fits : suc n < 2 ^ 32) where
       → raisedIn (edgeIn (toGo (jumped c 1 b)) n) (raisedIn b (c .regs)) ≡ raisedIn (edgeIn (toGo c) (suc n)) (c .regs)
   unfolding raisedIn
   one-more true e =
-      rw (to-go true, hit-after (countOf c) (compareOf c) n (omega arith) (hit e), hit-before (countOf c) (compareOf c) n (omega arith) (omega arith) (hit e))
+      rw (
+        to-go true,
+        hit-after (countOf c) (compareOf c) n (omega arith) (hit e),
+        hit-before (countOf c) (compareOf c) n (omega arith) (omega arith) (hit e),
+      )
   one-more false e = rw (to-go false, miss (countOf c) (compareOf c) n (omega arith) (omega arith) fits (missed e))
 
   one-edge : (b : Bool) → becomes c ≡ b → bit b + bit (edgeIn (toGo (jumped c 1 b)) n) ≡ bit (edgeIn (toGo c) (suc n))
   one-edge true e =
-      rw (to-go true, hit-after (countOf c) (compareOf c) n (omega arith) (hit e), hit-before (countOf c) (compareOf c) n (omega arith) (omega arith) (hit e))
+      rw (
+        to-go true,
+        hit-after (countOf c) (compareOf c) n (omega arith) (hit e),
+        hit-before (countOf c) (compareOf c) n (omega arith) (omega arith) (hit e),
+      )
   one-edge false e =
       rw (to-go false, miss (countOf c) (compareOf c) n (omega arith) (omega arith) fits (missed e)) (omega arith)
 
@@ -219,7 +231,11 @@ edge-is : (c : Cop0) → Kept c → (n m : ℕ) → n < 2 ^ 32 → edgeOf (moved
 unfolding edgeOf moved tickRandomByOf
 edge-is c k n m h =
     let x : ℕ = randomSteps (wiredOf c) m (randomOf c) in
-    rw (getD-set-other (c .regs) Random Compare x 0 (omega arith), count-moves (c .now) (c .«count_epoch_value») (c .«count_epoch_tick») n, k .mark)
+    rw (
+      getD-set-other (c .regs) Random Compare x 0 (omega arith),
+      count-moves (c .now) (c .«count_epoch_value») (c .«count_epoch_tick») n,
+      k .mark,
+    )
     (ap (λ (t : ℕ). leb 1 (toGo c) && leb (toGo c) t) (gone (countOf c) n (omega arith) h))
 
 state-is : (c : Cop0) (n m : ℕ) (b : Bool) → raisedIf b (asked (moved c n m)) ≡ jumped (tickRandomByOf c m) n b

@@ -47,7 +47,8 @@ read-unique a r r′ = same
 pub write-unique : (a : Cop0 × (ℕ × (ℕ × Unit {0}))) (r r′ : Cop0) → write.Post tt a r a → write.Post tt a r′ a → r ≡ r′
 write-unique a r r′ = same
 
-pub set-hardware-unique : (a : Cop0 × (ℕ × (ℕ × Unit {0}))) (r r′ : Cop0) → set-hardware.Post tt a r a → set-hardware.Post tt a r′ a → r ≡ r′
+pub set-hardware-unique : (a : Cop0 × (ℕ × (ℕ × Unit {0}))) (r r′ : Cop0) → set-hardware.Post tt a r a
+    → set-hardware.Post tt a r′ a → r ≡ r′
 set-hardware-unique a r r′ = same
 
 pub mfc0-unique : (a : Cop0 × (ℕ × Unit {0})) (r r′ : ℕ) → mfc0.Post tt a r a → mfc0.Post tt a r′ a → r ≡ r′
@@ -71,28 +72,35 @@ count-now-unique a r r′ = same
 pub count-unique : (a : Cop0 × Unit {0}) (r r′ : ℕ) → count.Post tt a r a → count.Post tt a r′ a → r ≡ r′
 count-unique a r r′ = same
 
-pub timer-matches-unique : (a : Cop0 × Unit {0}) (r r′ : Bool) → timer-matches.Post tt a r a → timer-matches.Post tt a r′ a → r ≡ r′
+pub timer-matches-unique : (a : Cop0 × Unit {0}) (r r′ : Bool) → timer-matches.Post tt a r a
+    → timer-matches.Post tt a r′ a → r ≡ r′
 timer-matches-unique a r r′ = same
 
 pub timer-edge-unique : (a : Cop0 × Unit {0}) (r r′ : Polled) → timer-edge.Post tt a r a → timer-edge.Post tt a r′ a → r ≡ r′
 timer-edge-unique a r r′ = same
 
-pub count-ticks-until-timer-match-unique : (a : Cop0 × Unit {0}) (r r′ : ℕ) → count-ticks-until-timer-match.Post tt a r a → count-ticks-until-timer-match.Post tt a r′ a → r ≡ r′
+pub count-ticks-until-timer-match-unique : (a : Cop0 × Unit {0}) (r r′ : ℕ)
+    → count-ticks-until-timer-match.Post tt a r a → count-ticks-until-timer-match.Post tt a r′ a → r ≡ r′
 count-ticks-until-timer-match-unique a r r′ = same
 
-pub tick-random-unique : (a : Cop0 × Unit {0}) (r r′ : Cop0) → tick-random.Post tt a r a → tick-random.Post tt a r′ a → r ≡ r′
+pub tick-random-unique : (a : Cop0 × Unit {0}) (r r′ : Cop0) → tick-random.Post tt a r a → tick-random.Post tt a r′ a
+    → r ≡ r′
 tick-random-unique a r r′ = same
 
-pub tick-random-by-unique : (a : Cop0 × (ℕ × Unit {0})) (r r′ : Cop0) → tick-random-by.Post tt a r a → tick-random-by.Post tt a r′ a → r ≡ r′
+pub tick-random-by-unique : (a : Cop0 × (ℕ × Unit {0})) (r r′ : Cop0) → tick-random-by.Post tt a r a
+    → tick-random-by.Post tt a r′ a → r ≡ r′
 tick-random-by-unique a r r′ = same
 
-pub set-ip-unique : (a : Cop0 × (ℕ × (Bool × Unit {0}))) (r r′ : Cop0) → set-ip.Post tt a r a → set-ip.Post tt a r′ a → r ≡ r′
+pub set-ip-unique : (a : Cop0 × (ℕ × (Bool × Unit {0}))) (r r′ : Cop0) → set-ip.Post tt a r a → set-ip.Post tt a r′ a
+    → r ≡ r′
 set-ip-unique a r r′ = same
 
-pub interrupt-pending-unique : (a : Cop0 × Unit {0}) (r r′ : Bool) → interrupt-pending.Post tt a r a → interrupt-pending.Post tt a r′ a → r ≡ r′
+pub interrupt-pending-unique : (a : Cop0 × Unit {0}) (r r′ : Bool) → interrupt-pending.Post tt a r a
+    → interrupt-pending.Post tt a r′ a → r ≡ r′
 interrupt-pending-unique a r r′ = same
 
-pub advance-unique : (a : Cop0 × (ℕ × (ℕ × Unit {0}))) (r r′ : Advanced) → advance.Post tt a r a → advance.Post tt a r′ a → r ≡ r′
+pub advance-unique : (a : Cop0 × (ℕ × (ℕ × Unit {0}))) (r r′ : Advanced) → advance.Post tt a r a
+    → advance.Post tt a r′ a → r ≡ r′
 advance-unique a r r′ p q =
     ap₂ made
     (advance-one (r .answer) (r′ .answer) (same (p .0) (q .0)))

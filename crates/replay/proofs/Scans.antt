@@ -19,6 +19,7 @@ module _ (stop : Stop) (i : ℕ) (s : List ℕ) where
   unfolding passed
   stopped h t = rw (drop-cons s i 0 h, t, add-zero)
 
-  pub went : i < length s → stopsOf stop (getD s i 0) ≡ false → i + passed stop (drop i s) ≡ i + 1 + passed stop (drop (i + 1) s)
+  pub went : i < length s → stopsOf stop (getD s i 0) ≡ false
+      → i + passed stop (drop i s) ≡ i + 1 + passed stop (drop (i + 1) s)
   unfolding passed
   went h t = rw (add-one, drop-cons s i 0 h, t, add-suc, suc-add)

@@ -34,7 +34,8 @@ module _ (v asid : ℕ) where
   first-is [] i j js e = let z : _≡_ {A = ℕ} 0 1 = cc in absurd (omega arith)
   first-is (x ∷ es) i j js e = go (matchesOf x v asid) refl e (first-is es (suc i) j js)
     where
-      go : (b : Bool) → matchesOf x v asid ≡ b → cond b (i ∷ matching es v asid (suc i)) (matching es v asid (suc i)) ≡ j ∷ js
+      go : (b : Bool) → matchesOf x v asid ≡ b
+          → cond b (i ∷ matching es v asid (suc i)) (matching es v asid (suc i)) ≡ j ∷ js
           → (matching es v asid (suc i) ≡ j ∷ js → First es (suc i) j) → First (x ∷ es) i j
       go true m p rest =
           let q : i ≡ j = cc in
@@ -85,7 +86,8 @@ module _ (t : Tlb) (v asid : ℕ) where
   nothing-by len (i ∷ j ∷ is) e h n p = absurd (omega (arith, below (t .entries) v asid 0 i (j ∷ is) e))
 
   -- and at 32 no entry matches
-  pub lowest-none : length (t .entries) ≡ 32 → 32 ≤ lowest t v asid → (n : ℕ) → n < 32 → matchesOf (entryAt t n) v asid ≡ false
+  pub lowest-none : length (t .entries) ≡ 32 → 32 ≤ lowest t v asid → (n : ℕ) → n < 32
+      → matchesOf (entryAt t n) v asid ≡ false
   unfolding lowest
   lowest-none len h = nothing-by len (matching (t .entries) v asid 0) refl h
 

@@ -37,10 +37,15 @@ in-range a base p hp m = go (decLe base a) (decLt a (base + p))
 
     go : Dec (base ≤ a) → Dec (a < base + p) → eqb (a / p * p) base ≡ (leb base a && ltb a (base + p))
     go (yes l) (yes u) =
-        let q : a / p ≡ base / p = div-eq-of-lt-le p (omega (arith, whole)) (omega (arith, whole, add-mul (base / p) 1 p, one-mul p)) in
+        let q : a / p ≡ base / p = div-eq-of-lt-le p (omega (arith, whole))
+        (omega (arith, whole, add-mul (base / p) 1 p, one-mul p)) in
         simp (eq-eqb (a / p * p) base (ap (λ (x : ℕ). x * p) q ∙ whole), le-leb base a l, lt-ltb a (base + p) u)
     go (yes l) (no u) =
-        simp (ne-eqb (a / p * p) base (λ e. omega (arith, lt-div-mul-add {a = a} hp)), le-leb base a l, le-ltb a (base + p) (omega arith))
+        simp (
+          ne-eqb (a / p * p) base (λ e. omega (arith, lt-div-mul-add {a = a} hp)),
+          le-leb base a l,
+          le-ltb a (base + p) (omega arith),
+        )
     go (no l) u =
         simp (ne-eqb (a / p * p) base (λ e. omega (arith, div-mul-le-self a p)), lt-leb base a (omega arith))
 
@@ -83,8 +88,14 @@ first-half j v =
     two = ap (λ (m : ℕ). v % m) (sym (pow-add 2 1 j)) ∙ mod-pow-add v 1 j
 
     go : (b : ℕ) → b < 2 → eqb (b * 2 ^ j) 0 ≡ ltb (b * 2 ^ j + v % 2 ^ j) (2 ^ j)
-    go zero hb = simp (eq-eqb (0 * 2 ^ j) 0 (zero-mul (2 ^ j)), lt-ltb (0 * 2 ^ j + v % 2 ^ j) (2 ^ j) (omega (arith, zero-mul (2 ^ j), mod-lt v (pow-pos j))))
-    go (suc zero) hb = simp (ne-eqb (1 * 2 ^ j) 0 (λ e. omega (arith, one-mul (2 ^ j), pow-pos j)), le-ltb (1 * 2 ^ j + v % 2 ^ j) (2 ^ j) (omega (arith, one-mul (2 ^ j))))
+    go zero hb = simp (
+      eq-eqb (0 * 2 ^ j) 0 (zero-mul (2 ^ j)),
+      lt-ltb (0 * 2 ^ j + v % 2 ^ j) (2 ^ j) (omega (arith, zero-mul (2 ^ j), mod-lt v (pow-pos j))),
+    )
+    go (suc zero) hb = simp (
+      ne-eqb (1 * 2 ^ j) 0 (λ e. omega (arith, one-mul (2 ^ j), pow-pos j)),
+      le-ltb (1 * 2 ^ j + v % 2 ^ j) (2 ^ j) (omega (arith, one-mul (2 ^ j))),
+    )
     go (suc (suc b)) hb = absurd (omega arith)
 
 -- an entry of page size k, whose base is a multiple of the pair, as every write makes it
@@ -93,7 +104,13 @@ module _ (k : ℕ) (h : k ≤ 6) (e : Entry) (mask : e .«page_mask» ≡ maskAt
   pub match-is : e .vpn2 % (2 * sizeAt k) ≡ 0 → (v asid : ℕ) → matchesOf e v asid ≡ matchesAt k e v asid
   unfolding matchesOf
   match-is m v asid =
-      rw (mask, vpn2-is k v h, two-pages k, in-range (fieldOf v 39 0) (e .vpn2) (2 * sizeAt k) (omega (arith, pow-pos (12 + 2 * k))) m)
+      rw (
+        mask,
+        vpn2-is k v h,
+        two-pages k,
+        in-range (fieldOf v 39 0) (e .vpn2) (2 * sizeAt k)
+            (omega (arith, pow-pos (12 + 2 * k))) m,
+      )
 
   -- the half is the page of the pair that the address lies in
   pub half-is : (v : ℕ) → halfOf e v ≡ halfAt k e v

@@ -32,7 +32,8 @@ pub pairs-small : (n x : ℕ) → n ≤ 6 → pairs n x < 4096
 pairs-small n x h = lt-of-lt-of-le (pairs-lt n x) (pow-le-pow-right {n = 4} (omega arith) h)
 
 -- one pair more, from the top down: the pair at bit k of a mask
-pub pair-more : (n k mask : ℕ) → pairs (suc n) (mask / 2 ^ k) ≡ pairs n (mask / 2 ^ (k + 2)) * 4 + 3 * fieldOf mask (k + 1) (k + 1)
+pub pair-more : (n k mask : ℕ)
+    → pairs (suc n) (mask / 2 ^ k) ≡ pairs n (mask / 2 ^ (k + 2)) * 4 + 3 * fieldOf mask (k + 1) (k + 1)
 unfolding pairs
 pair-more n k mask =
     let e : k + 1 + 1 - (k + 1) ≡ 1 = omega arith in

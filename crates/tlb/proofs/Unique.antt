@@ -46,23 +46,29 @@ pair-size-unique a r r′ = same
 abbrev looked : LookupAnswer → Tlb → Looked
 looked a t = record { answer = a; tlb = t }
 
-pub lookup-unique : (a : Tlb × (ℕ × (ℕ × (Bool × Unit {0})))) (r r′ : Looked) → lookup.Post tt a r a → lookup.Post tt a r′ a → r ≡ r′
+pub lookup-unique : (a : Tlb × (ℕ × (ℕ × (Bool × Unit {0})))) (r r′ : Looked) → lookup.Post tt a r a
+    → lookup.Post tt a r′ a → r ≡ r′
 lookup-unique a r r′ p q = ap₂ looked (lookup-one (r .answer) (r′ .answer) (same (p .0) (q .0))) (same (p .1) (q .1))
 
-pub write-entry-unique : (a : Tlb × (ℕ × (Cop0 × Unit {0}))) (r r′ : Tlb) → write-entry.Post tt a r a → write-entry.Post tt a r′ a → r ≡ r′
+pub write-entry-unique : (a : Tlb × (ℕ × (Cop0 × Unit {0}))) (r r′ : Tlb) → write-entry.Post tt a r a
+    → write-entry.Post tt a r′ a → r ≡ r′
 write-entry-unique a r r′ = same
 
-pub read-entry-unique : (a : Tlb × (ℕ × (Cop0 × Unit {0}))) (r r′ : Cop0) → read-entry.Post tt a r a → read-entry.Post tt a r′ a → r ≡ r′
+pub read-entry-unique : (a : Tlb × (ℕ × (Cop0 × Unit {0}))) (r r′ : Cop0) → read-entry.Post tt a r a
+    → read-entry.Post tt a r′ a → r ≡ r′
 read-entry-unique a r r′ = same
 
 pub probe-unique : (a : Tlb × (Cop0 × Unit {0})) (r r′ : Cop0) → probe.Post tt a r a → probe.Post tt a r′ a → r ≡ r′
 probe-unique a r r′ = same
 
-pub jtlb-has-match-unique : (a : Tlb × (ℕ × (ℕ × Unit {0}))) (r r′ : Bool) → jtlb-has-match.Post tt a r a → jtlb-has-match.Post tt a r′ a → r ≡ r′
+pub jtlb-has-match-unique : (a : Tlb × (ℕ × (ℕ × Unit {0}))) (r r′ : Bool) → jtlb-has-match.Post tt a r a
+    → jtlb-has-match.Post tt a r′ a → r ≡ r′
 jtlb-has-match-unique a r r′ = same
 
-pub itlb-probe-unique : (a : Tlb × (ℕ × (ℕ × Unit {0}))) (r r′ : ItlbProbed) → itlb-probe.Post tt a r a → itlb-probe.Post tt a r′ a → r ≡ r′
+pub itlb-probe-unique : (a : Tlb × (ℕ × (ℕ × Unit {0}))) (r r′ : ItlbProbed) → itlb-probe.Post tt a r a
+    → itlb-probe.Post tt a r′ a → r ≡ r′
 itlb-probe-unique a r r′ = same
 
-pub itlb-fill-unique : (a : Tlb × (ℕ × (ℕ × Unit {0}))) (r r′ : Tlb) → itlb-fill.Post tt a r a → itlb-fill.Post tt a r′ a → r ≡ r′
+pub itlb-fill-unique : (a : Tlb × (ℕ × (ℕ × Unit {0}))) (r r′ : Tlb) → itlb-fill.Post tt a r a
+    → itlb-fill.Post tt a r′ a → r ≡ r′
 itlb-fill-unique a r r′ = same

@@ -83,7 +83,8 @@ impl Tlb {
 
     // Where an address leads. Two entries that match shut the TLB down for good, and a TLB that is shut down finds nothing.
     pub fn lookup(mut self, vaddr: u64, asid: u8, store: bool) -> Looked
-        ensures { λ r. ⌜ (toldLookup (r .answer) ≡ toldLookup (lookupAnswer self vaddr asid store)) × (r .tlb ≡ lookupTable self vaddr asid) ⌝ }
+        ensures { λ r. ⌜ (toldLookup (r .answer) ≡ toldLookup (lookupAnswer self vaddr asid store))
+            × (r .tlb ≡ lookupTable self vaddr asid) ⌝ }
     {
         if self.shutdown {
             return self.fault();
