@@ -1,13 +1,13 @@
 -- The numbers and values of answers are one-to-one: each has the answer that it came from.
 use mathlib.Core.Path.{_≡_, refl, ap}
-use mathlib.Core.Bool.{Bool, true, false, cond}
+use mathlib.Core.Bool.{cond}
 use mathlib.Core.List.{List, [], _∷_}
 use Prim.Native.Nat.{ℕ}
 use lib.Dec.{eqb}
 use lib.ListN.{getD}
 use Rattle.bits.specs.Told.{Told}
 use Rattle.bits.proofs.Same.{one-to-one}
-use Rattle.cop0.specs.Interrupt.{bit}
+use Rattle.bits.proofs.FieldLaws.{bit-undone}
 use Rattle.tlb.specs.declared.entries.TlbFault.the-variants as fault
 use Rattle.addr.specs.declared.access.Mode.{Mode}
 use Rattle.addr.specs.declared.access.Mode.the-variants.{Kernel, Supervisor, User}
@@ -23,10 +23,6 @@ use Rattle.addr.specs.declared.translate.TranslateAnswer.{TranslateAnswe
 use Rattle.addr.specs.declared.translate.TranslateAnswer.the-variants.{At, Failed}
 use Rattle.addr.specs.Answers.{modeNumber, cachedNumber, errorNumber, toldAccess, toldSegment, toldTranslate}
 use Rattle.tlb.proofs.Answers.{faultOf}
-
-bit-undone : (b : Bool) → eqb (bit b) 1 ≡ b
-bit-undone true = refl
-bit-undone false = refl
 
 abbrev modeAt : ℕ → Mode
 modeAt n = cond (eqb n 0) Kernel (cond (eqb n 1) Supervisor User)

@@ -1,5 +1,4 @@
 pub mod Answers
-pub mod AccessLaws
 pub mod SegmentLaws
 pub mod TranslateLaws
 pub mod Limits

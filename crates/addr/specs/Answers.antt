@@ -2,7 +2,7 @@
 use mathlib.Core.List.{[], _∷_}
 use Prim.Native.Nat.{ℕ}
 use Rattle.bits.specs.Told.{Told, answered, refused}
-use Rattle.cop0.specs.Interrupt.{bit}
+use Rattle.bits.specs.Field.{bit}
 use Rattle.tlb.specs.Entries.{faultNumber}
 use Rattle.addr.specs.declared.access.Mode.{Mode}
 use Rattle.addr.specs.declared.access.Mode.the-variants.{Kernel, Supervisor, User}

@@ -1,13 +1,15 @@
 -- Laws of fields, over the width and the position.
-use mathlib.Core.Path.{_≡_, ap, ap₂, sym, _∙_}
-use Prim.Native.Nat.{ℕ, _+_, _-_, _*_, _/_, _%_, _^_, _<_, _≤_}
+use mathlib.Core.Path.{_≡_, refl, ap, ap₂, sym, _∙_}
+use mathlib.Core.Bool.{Bool, true, false}
+use Prim.Native.Nat.{ℕ, zero, suc, _+_, _-_, _*_, _/_, _%_, _^_, _<_, _≤_}
 use native.Mathlib.Nat.{one-mul, mul-assoc, add-mul, add-assoc, div-one, mod-lt, mod-one, zero-mod, mod-eq-of-lt, div-eq-of-lt, div-le-self, lt-of-lt-of-le, lt-of-le-of-lt, pow-le-pow-right}
 use native.Mathlib.Omega.{arith}
 use lib.Arith.{digits-lt}
+use lib.Dec.{eqb}
 use lib.Pow.{pow-pos, pow-add, split, high, low, mod-pow-add, shl-lt, shl-exact, shr-lt, shr-shr, field, mod-mod-pow}
 use lib.Bits.{bitOr, or-shifted}
 use borrow.Author.Tests.{le-leb}
-use Rattle.bits.specs.Field.{fieldOf, withFieldOf}
+use Rattle.bits.specs.Field.{fieldOf, withFieldOf, bit}
 
 pow-le : (i j : ℕ) → i ≤ j → 2 ^ i ≤ 2 ^ j
 pow-le i j h = pow-le-pow-right (omega arith) h
@@ -163,6 +165,20 @@ pub bit-lt : (x b : ℕ) → fieldOf x b b < 2
 bit-lt x b =
     let e : b + 1 - b ≡ 1 = omega arith in
     rw e (mod-lt (x / 2 ^ b) (omega arith))
+
+small-tested : (n : ℕ) → n < 2 → bit (eqb n 1) ≡ n
+small-tested zero h = refl
+small-tested (suc zero) h = refl
+small-tested (suc (suc n)) h = omega arith
+
+-- the flag that tests a bit is that bit
+pub bit-tested : (x b : ℕ) → bit (eqb (fieldOf x b b) 1) ≡ fieldOf x b b
+bit-tested x b = small-tested (fieldOf x b b) (bit-lt x b)
+
+-- and a flag is what its bit tests as
+pub bit-undone : (b : Bool) → eqb (bit b) 1 ≡ b
+bit-undone true = refl
+bit-undone false = refl
 
 -- two numbers, each at its place, the upper from j places above the lower: or joins them
 pub or-places : (a b j k : ℕ) → b < 2 ^ j → bitOr (a * 2 ^ (j + k)) (b * 2 ^ k) ≡ (a * 2 ^ j + b) * 2 ^ k

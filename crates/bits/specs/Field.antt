@@ -1,11 +1,16 @@
 -- A field of a word, as the manual's figures draw it: bits hi..lo, bit 0 the lowest.
 use Prim.Native.Nat.{ℕ, _+_, _-_, _*_, _/_, _%_, _^_}
-use mathlib.Core.Bool.{Bool, _&&_, cond}
+use mathlib.Core.Bool.{Bool, true, false, _&&_, cond}
 use lib.Dec.{leb}
 
 -- bits hi..lo of x, as a number
 abbrev pub fieldOf : ℕ → ℕ → ℕ → ℕ
 fieldOf x hi lo = x / 2 ^ lo % 2 ^ (hi + 1 - lo)
+
+-- a flag as a bit
+abbrev pub bit : Bool → ℕ
+bit true = 1
+bit false = 0
 
 -- hi..lo is a part of a 64-bit word
 abbrev pub inWord : ℕ → ℕ → Bool

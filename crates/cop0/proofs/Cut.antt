@@ -5,9 +5,9 @@ use mathlib.Core.List.{List, [], _∷_}
 use Prim.Native.Nat.{ℕ, _+_, _^_, _<_}
 use native.Mathlib.Nat.{add-zero}
 use native.Mathlib.Omega.{arith}
+use Rattle.bits.specs.Field.{bit}
 use Rattle.cop0.specs.declared.registers.Cop0.{Cop0}
 use Rattle.cop0.specs.Random.{tickRandomOf}
-use Rattle.cop0.specs.Interrupt.{bit}
 use Rattle.cop0.specs.Advance.{advanceTold, advanceOf}
 use Rattle.cop0.specs.Machine.{oneTick, becomes, ticks, edges, steps, sixBit, Kept}
 use Rattle.cop0.specs.Cut.{

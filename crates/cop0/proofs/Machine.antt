@@ -9,11 +9,11 @@ use lib.Seq.{getD-set-other, getD-set-same, set-set, set-comm, lt-length-set}
 use lib.Dec.{leb}
 use borrow.Author.Tests.{lt-ltb, eqb-true, eqb-false}
 use Rattle.bits.specs.Told.{answered}
-use Rattle.bits.specs.Field.{fieldOf, withFieldOf}
+use Rattle.bits.specs.Field.{fieldOf, withFieldOf, bit}
 use Rattle.cop0.specs.declared.registers.Cop0.{Cop0}
 use Rattle.cop0.specs.Registers.{Random, Wired, Compare, Cause}
 use Rattle.cop0.specs.Record.{put, withReg}
-use Rattle.cop0.specs.Interrupt.{bit, setIpOf}
+use Rattle.cop0.specs.Interrupt.{setIpOf}
 use Rattle.cop0.specs.Clock.{less, countAt, countOf, compareOf, edgeOf, asked}
 use Rattle.cop0.specs.Random.{randomOf, wiredOf, randomStep, randomSteps, tickRandomOf, tickRandomByOf}
 use Rattle.cop0.specs.Advance.{moved, raisedIf, advanceTold, advanceOf}

@@ -6,9 +6,9 @@ use native.Mathlib.Nat.{zero-add, suc-add, add-assoc}
 use native.Mathlib.Omega.{arith}
 use lib.ListN.{length-set}
 use lib.Seq.{getD-set-other}
+use Rattle.bits.specs.Field.{bit}
 use Rattle.cop0.specs.declared.registers.Cop0.{Cop0}
 use Rattle.cop0.specs.Registers.{Random, Compare}
-use Rattle.cop0.specs.Interrupt.{bit}
 use Rattle.cop0.specs.Clock.{asked}
 use Rattle.cop0.specs.Random.{randomOf, wiredOf, randomStep, tickRandomOf}
 use Rattle.cop0.specs.Machine.{becomes, oneTick, ticks, edges, steps, sixBit, Kept}

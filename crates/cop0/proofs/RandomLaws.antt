@@ -7,6 +7,7 @@ use native.Mathlib.Decide.{decLe, ℕ-discrete}
 use native.Mathlib.Omega.{arith}
 use lib.Dec.{eqb}
 use borrow.Author.Tests.{eq-eqb, ne-eqb}
+use Rattle.bits.specs.Field.{fieldOf}
 use Rattle.cop0.specs.declared.registers.Cop0.{Cop0}
 use Rattle.cop0.specs.Registers.{Random}
 use Rattle.cop0.specs.Record.{withReg}
@@ -75,6 +76,10 @@ far w r (suc n) hw hr h =
         ap (randomSteps w n) (step-off w r e)
         ∙ g (omega arith)
         ∙ ap (place w) (one-less n _ _ (one-down w r hw hr e))
+
+-- what `field` has read of a stored register, as its six bits
+pub six-of : {f x y : ℕ} → f ≡ fieldOf x 5 0 → x ≡ y → f ≡ fieldOf y 5 0
+six-of e h = e ∙ ap (λ (x : ℕ). fieldOf x 5 0) h
 
 pub cycle-below : (k w : ℕ) → k % ((95 - w) % 64 + 1) ≤ 95
 cycle-below k w = omega (arith, mod-lt k {m = (95 - w) % 64 + 1} (omega arith))

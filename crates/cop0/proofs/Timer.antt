@@ -5,11 +5,11 @@ use mathlib.Core.List.{[], _∷_}
 use Prim.Native.Nat.{ℕ, _+_, _%_, _^_, _<_}
 use lib.Dec.{leb}
 use borrow.Author.Tests.{lt-ltb}
+use Rattle.bits.specs.Field.{bit}
 use Rattle.bits.specs.Told.{answered}
 use Rattle.cop0.specs.declared.registers.Cop0.{Cop0}
 use Rattle.cop0.specs.declared.clock.Polled.{Polled}
 use Rattle.cop0.specs.Record.{withNow}
-use Rattle.cop0.specs.Interrupt.{bit}
 use Rattle.cop0.specs.Clock.{sinceAsked, toCompare, edgeOf, asked, polledOf}
 use Rattle.cop0.specs.Random.{tickRandomByOf}
 use Rattle.cop0.specs.Advance.{moved, raisedIf, advanceTold, advanceOf}

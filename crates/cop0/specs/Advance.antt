@@ -3,12 +3,13 @@ use mathlib.Core.Bool.{Bool, true, false, cond}
 use mathlib.Core.List.{[], _∷_}
 use Prim.Native.Nat.{ℕ, _+_, _%_, _^_}
 use lib.Dec.{ltb}
+use Rattle.bits.specs.Field.{bit}
 use Rattle.bits.specs.Told.{Told, answered, refused}
 use Rattle.cop0.specs.declared.registers.Cop0.{Cop0}
 use Rattle.cop0.specs.declared.advance.AdvanceAnswer.{AdvanceAnswer}
 use Rattle.cop0.specs.declared.advance.AdvanceAnswer.the-variants.{Edge, Refused}
 use Rattle.cop0.specs.Record.{withNow}
-use Rattle.cop0.specs.Interrupt.{bit, setIpOf}
+use Rattle.cop0.specs.Interrupt.{setIpOf}
 use Rattle.cop0.specs.Clock.{edgeOf, asked}
 use Rattle.cop0.specs.Random.{tickRandomByOf}
 

@@ -1,11 +1,11 @@
 -- An advance cut in consecutive pieces, and the single-tick machine under any order of its ticks and steps.
 use mathlib.Core.List.{List, [], _∷_}
 use Prim.Native.Nat.{ℕ, suc, _+_}
+use Rattle.bits.specs.Field.{bit}
 use Rattle.bits.specs.Told.{Told}
 use Rattle.cop0.specs.declared.registers.Cop0.{Cop0}
 use Rattle.cop0.specs.Random.{tickRandomOf}
 use Rattle.cop0.specs.Advance.{advanceTold, advanceOf}
-use Rattle.cop0.specs.Interrupt.{bit}
 use Rattle.cop0.specs.Machine.{oneTick, becomes}
 
 pub record Piece : Type 0 where

@@ -1,16 +1,12 @@
 -- Cause's pending bits IP7..IP0 (Cause 15..8) and their masks IM7..IM0 (Status 15..8) (6.3.5, 6.3.6).
-use mathlib.Core.Bool.{Bool, true, false, _&&_, not}
+use mathlib.Core.Bool.{Bool, _&&_, not}
 use Prim.Native.Nat.{ℕ, _+_, _%_}
 use lib.Dec.{eqb}
 use lib.Bits.{bitAnd}
-use Rattle.bits.specs.Field.{fieldOf, withFieldOf}
+use Rattle.bits.specs.Field.{fieldOf, withFieldOf, bit}
 use Rattle.cop0.specs.declared.registers.Cop0.{Cop0}
 use Rattle.cop0.specs.Registers.{Status, Cause}
 use Rattle.cop0.specs.Record.{reg, withReg}
-
-abbrev pub bit : Bool → ℕ
-bit true = 1
-bit false = 0
 
 -- pending bit b of Cause set to on, b modulo 8
 unfoldable pub setIpOf : Cop0 → ℕ → Bool → Cop0

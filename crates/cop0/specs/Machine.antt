@@ -5,10 +5,10 @@ use mathlib.Core.Path.{_≡_}
 use Prim.Native.Nat.{ℕ, zero, suc, _+_, _%_, _^_, _<_}
 use lib.Dec.{eqb}
 use lib.ListN.{length}
+use Rattle.bits.specs.Field.{bit}
 use Rattle.cop0.specs.declared.registers.Cop0.{Cop0}
 use Rattle.cop0.specs.Registers.{Random}
 use Rattle.cop0.specs.Record.{withNow, withReg}
-use Rattle.cop0.specs.Interrupt.{bit}
 use Rattle.cop0.specs.Clock.{countOf, compareOf, asked}
 use Rattle.cop0.specs.Random.{randomOf, tickRandomOf}
 use Rattle.cop0.specs.Advance.{raisedIf}

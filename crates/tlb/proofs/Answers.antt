@@ -1,17 +1,18 @@
 -- The values of a lookup's answer are one-to-one: each has the answer that it came from.
 use mathlib.Core.Path.{_≡_, refl, ap}
-use mathlib.Core.Bool.{Bool, true, false, cond}
+use mathlib.Core.Bool.{Bool, cond}
 use mathlib.Core.List.{List, [], _∷_}
 use Prim.Native.Nat.{ℕ}
 use lib.Dec.{eqb}
 use Rattle.bits.specs.Told.{Told}
 use Rattle.bits.proofs.Same.{one-to-one}
+use Rattle.bits.proofs.FieldLaws.{bit-undone}
 use Rattle.tlb.specs.declared.entries.Translated.{Translated}
 use Rattle.tlb.specs.declared.entries.TlbFault.{TlbFault}
 use Rattle.tlb.specs.declared.entries.TlbFault.the-variants.{Refill, Invalid, Modified}
 use Rattle.tlb.specs.declared.entries.LookupAnswer.{LookupAnswer}
 use Rattle.tlb.specs.declared.entries.LookupAnswer.the-variants.{Found, Fault}
-use Rattle.tlb.specs.Entries.{flag, faultNumber, toldLookup}
+use Rattle.tlb.specs.Entries.{faultNumber, toldLookup}
 
 abbrev pub faultOf : ℕ → TlbFault
 faultOf n = cond (eqb n 0) Refill (cond (eqb n 1) Invalid Modified)
@@ -20,10 +21,6 @@ pub fault-undone : (f : TlbFault) → faultOf (faultNumber f) ≡ f
 fault-undone Refill = refl
 fault-undone Invalid = refl
 fault-undone Modified = refl
-
-pub flag-undone : (b : Bool) → eqb (flag b) 1 ≡ b
-flag-undone true = refl
-flag-undone false = refl
 
 abbrev translated : ℕ → Bool → Translated
 translated a u = record { addr = a; uncached = u }
@@ -34,7 +31,7 @@ answerOf (a ∷ []) = Fault (faultOf a)
 answerOf (a ∷ u ∷ vs) = Found (translated a (eqb u 1))
 
 undone : (a : LookupAnswer) → answerOf (toldLookup a .values) ≡ a
-undone (Found t) = ap (λ (u : Bool). Found (translated (t .addr) u)) (flag-undone (t .uncached))
+undone (Found t) = ap (λ (u : Bool). Found (translated (t .addr) u)) (bit-undone (t .uncached))
 undone (Fault f) = ap Fault (fault-undone f)
 
 pub lookup-one : (a a′ : LookupAnswer) → toldLookup a ≡ toldLookup a′ → a ≡ a′

@@ -2,7 +2,7 @@
 use mathlib.Core.Path.{_≡_, refl, ap, _∙_}
 use mathlib.Core.Bool.{Bool, true, false, cond}
 use mathlib.Core.List.{List, [], _∷_}
-use Prim.Native.Nat.{ℕ, zero, suc, _+_, _-_, _*_, _/_, _%_, _^_, _<_}
+use Prim.Native.Nat.{ℕ, _+_, _-_, _*_, _/_, _%_, _^_, _<_}
 use native.Mathlib.Nat.{add-assoc, lt-of-le-of-lt}
 use native.Mathlib.Decide.{ℕ-discrete}
 use native.Mathlib.Omega.{arith}
@@ -11,9 +11,9 @@ use lib.Bits.{bitOr, or-shifted, and-high}
 use lib.ListN.{length, length-set}
 use lib.Seq.{getD-set-same, getD-set-other}
 use borrow.Author.Tests.{eq-eqb, ne-eqb}
-use Rattle.bits.specs.Field.{fieldOf}
+use Rattle.bits.specs.Field.{fieldOf, bit}
 use Rattle.bits.specs.Mask.{under, mergedBits}
-use Rattle.bits.proofs.FieldLaws.{field-lt, bit-lt, or-places, fields-join}
+use Rattle.bits.proofs.FieldLaws.{field-lt, bit-tested, or-places, fields-join}
 use Rattle.bits.proofs.MaskLaws.{merged-shift, cleared-le, under-ones, under-block}
 use Rattle.cop0.specs.declared.registers.Cop0.{Cop0}
 use Rattle.cop0.specs.Registers.{among, unused, archMask}
@@ -21,7 +21,7 @@ use Rattle.cop0.specs.Record.{reg}
 use Rattle.cop0.specs.File.{readAt, readOf, setHardwareOf}
 use Rattle.tlb.specs.declared.entries.Entry.{Entry}
 use Rattle.tlb.specs.declared.table.Tlb.{Tlb}
-use Rattle.tlb.specs.Entries.{flag, vpn2Of}
+use Rattle.tlb.specs.Entries.{vpn2Of}
 use Rattle.tlb.specs.Table.{withVpn2, entryAt}
 use Rattle.tlb.specs.Moves.{EntryLo0, EntryLo1, PageMask, EntryHi, pairs, canonicalOf, pageOf, globalOf, maskOf, entryOf, writtenOf, loOf, hiOf, readEntryOf}
 use Rattle.tlb.proofs.Sizes.{pairs-small}
@@ -66,26 +66,20 @@ module _ (x v : ℕ) where
   hi-kept : under (archMask EntryHi) hi ≡ hi
   hi-kept = rw left-at (three-kept (fieldOf v 63 62) left (fieldOf v 7 0) (field-lt v 63 62) left-lt (field-lt v 7 0))
 
--- a flag as the bit that it came from
-flag-bit : (x : ℕ) → x < 2 → flag (eqb x 1) ≡ x
-flag-bit zero h = refl
-flag-bit (suc zero) h = refl
-flag-bit (suc (suc x)) h = absurd (omega arith)
-
-flag-lt : (b : Bool) → flag b < 2
-flag-lt true = omega arith
-flag-lt false = omega arith
+a-bit : (b : Bool) → bit b < 2
+a-bit true = omega arith
+a-bit false = omega arith
 
 -- PFN, C, D and V meet, and or joins them to the field 25..1; G is the bit below
-lo-joined : (lo : ℕ) (g : Bool) → loOf (pageOf lo) g ≡ fieldOf lo 25 1 * 2 + flag g
+lo-joined : (lo : ℕ) (g : Bool) → loOf (pageOf lo) g ≡ fieldOf lo 25 1 * 2 + bit g
 lo-joined lo g =
-    rw (flag-bit (fieldOf lo 2 2) (bit-lt lo 2), flag-bit (fieldOf lo 1 1) (bit-lt lo 1))
+    rw (bit-tested lo 2, bit-tested lo 1)
     (rw (fields-join lo 25 5 3 (omega arith) (omega arith), fields-join lo 25 2 2 (omega arith) (omega arith))
-    (rw (fields-join lo 25 1 1 (omega arith) (omega arith)) (or-shifted (fieldOf lo 25 1) 1 (flag g) (flag-lt g))))
+    (rw (fields-join lo 25 1 1 (omega arith) (omega arith)) (or-shifted (fieldOf lo 25 1) 1 (bit g) (a-bit g))))
 
 -- and EntryLo0 and EntryLo1 have these bits
-lo-kept : (lo : ℕ) (g : Bool) → under (2 ^ 30 - 1) (fieldOf lo 25 1 * 2 + flag g) ≡ fieldOf lo 25 1 * 2 + flag g
-lo-kept lo g = under-ones 30 (fieldOf lo 25 1 * 2 + flag g) (omega (arith, field-lt lo 25 1, flag-lt g))
+lo-kept : (lo : ℕ) (g : Bool) → under (2 ^ 30 - 1) (fieldOf lo 25 1 * 2 + bit g) ≡ fieldOf lo 25 1 * 2 + bit g
+lo-kept lo g = under-ones 30 (fieldOf lo 25 1 * 2 + bit g) (omega (arith, field-lt lo 25 1, a-bit g))
 
 -- registers set by hardware one after another, the last of them first
 abbrev after : Cop0 → List (ℕ × ℕ) → Cop0
@@ -172,7 +166,7 @@ module _ (t : Tlb) (i : ℕ) (c d : Cop0) (entries : length (t .entries) ≡ 32)
   g = globalOf (readOf c EntryLo0) (readOf c EntryLo1)
 
   -- PFN, C, D and V (bits 25..1), and that G; of the even half, or of the odd one
-  pub lo-back : (odd : Bool) → readOf r (entryLo odd) ≡ fieldOf (readOf c (entryLo odd)) 25 1 * 2 + flag g
+  pub lo-back : (odd : Bool) → readOf r (entryLo odd) ≡ fieldOf (readOf c (entryLo odd)) 25 1 * 2 + bit g
   unfolding readAt unused among entryOf archMask
   lo-back false = reads EntryLo0 (omega arith) (λ f. refl) refl (lo-joined (readOf c EntryLo0) g) (lo-kept (readOf c EntryLo0) g)
   lo-back true = reads EntryLo1 (omega arith) (λ f. refl) refl (lo-joined (readOf c EntryLo1) g) (lo-kept (readOf c EntryLo1) g)

@@ -1,11 +1,11 @@
 -- One entry: when it matches, its page sizes and what its halves answer (5.1, 5.4.9; figure 5-10, tables 5-6 and 5-7).
-use mathlib.Core.Bool.{Bool, true, false, cond, _&&_, _||_}
+use mathlib.Core.Bool.{Bool, cond, _&&_, _||_}
 use mathlib.Core.List.{[], _∷_}
 use Prim.Native.Nat.{ℕ, _+_, _-_, _*_, _/_, _^_}
 use lib.Dec.{eqb}
 use lib.Bits.{bitAnd, bitOr}
 use Rattle.bits.specs.Told.{Told, answered}
-use Rattle.bits.specs.Field.{fieldOf}
+use Rattle.bits.specs.Field.{fieldOf, bit}
 use Rattle.bits.specs.Mask.{merged, cleared}
 use Rattle.bits.specs.Extension.{low32Of}
 use Rattle.tlb.specs.declared.entries.PageEntry.{PageEntry}
@@ -46,17 +46,15 @@ physicalOf pfn m v = low32Of (merged m v (pfn * 4096))
 abbrev pub translated : PageEntry → ℕ → ℕ → LookupAnswer
 translated p m v = Found (record { addr = physicalOf (p .pfn) m v; uncached = uncachedOf p })
 
--- not valid: Invalid; a store to a half that is not dirty: Modified; else the address and whether C is 2
+-- not valid: Invalid; a store to a half that is not dirty: Modified; else what is given
+abbrev pub permitted : PageEntry → Bool → LookupAnswer → LookupAnswer
+permitted p store given = cond (p .valid) (cond store (cond (p .dirty) given (Fault Modified)) given) (Fault Invalid)
+
 unfoldable pub halfAnswer : PageEntry → ℕ → ℕ → Bool → LookupAnswer
-halfAnswer p m v store =
-    cond (p .valid) (cond store (cond (p .dirty) (translated p m v) (Fault Modified)) (translated p m v)) (Fault Invalid)
+halfAnswer p m v store = permitted p store (translated p m v)
 
 unfoldable pub entryAnswer : Entry → ℕ → Bool → LookupAnswer
 entryAnswer e v store = halfAnswer (halfOf e v) (pageSizeOf (e .«page_mask») - 1) v store
-
-abbrev pub flag : Bool → ℕ
-flag true = 1
-flag false = 0
 
 -- the number of each fault
 abbrev pub faultNumber : TlbFault → ℕ
@@ -66,5 +64,5 @@ faultNumber Modified = 2
 
 -- the values of each answer: the address and whether it is uncached, or the fault's number
 abbrev pub toldLookup : LookupAnswer → Told
-toldLookup (Found t) = answered (t .addr ∷ flag (t .uncached) ∷ [])
+toldLookup (Found t) = answered (t .addr ∷ bit (t .uncached) ∷ [])
 toldLookup (Fault f) = answered (faultNumber f ∷ [])

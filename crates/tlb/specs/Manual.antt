@@ -5,10 +5,9 @@ use lib.Dec.{eqb, leb, ltb}
 use Rattle.bits.specs.Field.{fieldOf}
 use Rattle.tlb.specs.declared.entries.PageEntry.{PageEntry}
 use Rattle.tlb.specs.declared.entries.Entry.{Entry}
-use Rattle.tlb.specs.declared.entries.TlbFault.the-variants.{Invalid, Modified}
 use Rattle.tlb.specs.declared.entries.LookupAnswer.{LookupAnswer}
-use Rattle.tlb.specs.declared.entries.LookupAnswer.the-variants.{Found, Fault}
-use Rattle.tlb.specs.Entries.{uncachedOf}
+use Rattle.tlb.specs.declared.entries.LookupAnswer.the-variants.{Found}
+use Rattle.tlb.specs.Entries.{uncachedOf, permitted}
 
 -- page size k, from 0 (4 KiB) to 6 (16 MiB), and its mask: ones from bit 13 up
 abbrev pub sizeAt : ℕ → ℕ
@@ -36,7 +35,5 @@ addressAt k pfn v = pfn * 4096 / sizeAt k * sizeAt k + v % sizeAt k
 abbrev pub translatedAt : ℕ → PageEntry → ℕ → LookupAnswer
 translatedAt k p v = Found (record { addr = addressAt k (p .pfn) v; uncached = uncachedOf p })
 
--- not valid: Invalid; a store to a page that is not dirty: Modified; else the address
 abbrev pub pageAnswerAt : ℕ → PageEntry → ℕ → Bool → LookupAnswer
-pageAnswerAt k p v store =
-    cond (p .valid) (cond store (cond (p .dirty) (translatedAt k p v) (Fault Modified)) (translatedAt k p v)) (Fault Invalid)
+pageAnswerAt k p v store = permitted p store (translatedAt k p v)

@@ -5,13 +5,13 @@ use Prim.Native.Nat.{ℕ, zero, suc, _+_, _*_, _/_, _%_, _^_}
 use lib.Dec.{eqb, ltb}
 use lib.Bits.{bitOr}
 use lib.ListN.{set}
-use Rattle.bits.specs.Field.{fieldOf}
+use Rattle.bits.specs.Field.{fieldOf, bit}
 use Rattle.cop0.specs.declared.registers.Cop0.{Cop0}
 use Rattle.cop0.specs.File.{readOf, setHardwareOf}
 use Rattle.tlb.specs.declared.entries.PageEntry.{PageEntry}
 use Rattle.tlb.specs.declared.entries.Entry.{Entry}
 use Rattle.tlb.specs.declared.table.Tlb.{Tlb}
-use Rattle.tlb.specs.Entries.{flag, vpn2Of}
+use Rattle.tlb.specs.Entries.{vpn2Of}
 use Rattle.tlb.specs.Table.{entryAt}
 use Rattle.tlb.specs.Micro.{lowest}
 
@@ -82,7 +82,7 @@ writtenOf t i c =
 
 -- the fields joined at their places
 abbrev pub loOf : PageEntry → Bool → ℕ
-loOf p g = bitOr (bitOr (bitOr (bitOr (p .pfn * 2 ^ 6) (p .c * 2 ^ 3)) (flag (p .dirty) * 2 ^ 2)) (flag (p .valid) * 2)) (flag g)
+loOf p g = bitOr (bitOr (bitOr (bitOr (p .pfn * 2 ^ 6) (p .c * 2 ^ 3)) (bit (p .dirty) * 2 ^ 2)) (bit (p .valid) * 2)) (bit g)
 
 abbrev pub hiOf : Entry → ℕ
 hiOf e = bitOr (bitOr (e .region % 4 * 2 ^ 62) (e .vpn2)) (e .asid)

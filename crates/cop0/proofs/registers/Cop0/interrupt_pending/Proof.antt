@@ -2,7 +2,6 @@
 use borrow.Author.Tests.{eq-eqb, ne-eqb}
 use borrow.Author.Needs.{needs}
 use Rattle.cop0.specs.Interrupt.{interruptPendingOf}
-use Rattle.cop0.specs.Interrupt.{interruptPendingOf}
 use Rattle.cop0.proofs.registers.Cop0.interrupt_pending.Statement.{statement}
 use Rattle.cop0.proofs.registers.Cop0.interrupt_pending.Tie as tie
 

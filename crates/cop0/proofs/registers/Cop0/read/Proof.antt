@@ -2,7 +2,6 @@
 use borrow.Author.Tests.{eq-eqb, ne-eqb}
 use borrow.Author.Needs.{needs}
 use Rattle.cop0.specs.File.{readAt}
-use Rattle.cop0.specs.File.{readAt}
 use Rattle.cop0.proofs.registers.Cop0.read.Statement.{statement}
 use Rattle.cop0.proofs.registers.Cop0.read.Tie as tie
 

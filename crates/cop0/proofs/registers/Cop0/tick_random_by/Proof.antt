@@ -1,9 +1,7 @@
 -- `Cop0::tick_random_by` is n steps: the closed form against the walk and the cycle.
-use mathlib.Core.Path.{ap, _∙_}
-use Prim.Native.Nat.{ℕ}
+use mathlib.Core.Path.{_∙_}
 use borrow.Author.Needs.{needs}
-use Rattle.bits.specs.Field.{fieldOf}
-use Rattle.cop0.proofs.RandomLaws.{walks, cycles, cycle-below}
+use Rattle.cop0.proofs.RandomLaws.{six-of, walks, cycles, cycle-below}
 use Rattle.cop0.proofs.registers.Cop0.tick_random_by.Statement.{statement}
 use Rattle.cop0.proofs.registers.Cop0.tick_random_by.Tie as tie
 
@@ -36,8 +34,8 @@ with-reg-requires c κs = search needs
 
 returns : tie.Need-returns
 returns c =
-    let wired = c .before .before .before .before .field .ensures ∙ ap (λ (x : ℕ). fieldOf x 5 0) (c .before .before .before .before .before .reg .ensures) in
-    let random = c .before .before .field2 .ensures ∙ ap (λ (x : ℕ). fieldOf x 5 0) (c .before .before .before .reg2 .ensures) in
+    let wired = six-of (c .before .before .before .before .field .ensures) (c .before .before .before .before .before .reg .ensures) in
+    let random = six-of (c .before .before .field2 .ensures) (c .before .before .before .reg2 .ensures) in
     c .with-reg .ensures ∙ walks _ _ _ wired random _ (c .before .if1 .taken)
 
 sub-cycle : tie.Need-sub-cycle
@@ -63,8 +61,8 @@ with-reg-requires-2 c κs = search needs
 
 returns-2 : tie.Need-returns-2
 returns-2 c =
-    let wired = c .before .before .before .before .field .ensures ∙ ap (λ (x : ℕ). fieldOf x 5 0) (c .before .before .before .before .before .reg .ensures) in
-    let random = c .before .before .field2 .ensures ∙ ap (λ (x : ℕ). fieldOf x 5 0) (c .before .before .before .reg2 .ensures) in
+    let wired = six-of (c .before .before .before .before .field .ensures) (c .before .before .before .before .before .reg .ensures) in
+    let random = six-of (c .before .before .field2 .ensures) (c .before .before .before .reg2 .ensures) in
     c .with-reg2 .ensures ∙ cycles _ _ _ wired random _ (c .before .if1 .left)
 
 pub tick-random-by-spec : {M : Type 1} → statement M
