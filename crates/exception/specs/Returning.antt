@@ -1,0 +1,18 @@
+-- ERET: by ErrorEPC and out of ERL where that is set, else by EPC and out of EXL. Status: ERL 2, EXL 1.
+use mathlib.Core.Bool.{cond}
+use Prim.Native.Nat.{ℕ}
+use lib.Dec.{eqb}
+use Rattle.bits.specs.Field.{fieldOf, withFieldOf}
+use Rattle.cop0.specs.declared.registers.Cop0.{Cop0}
+use Rattle.cop0.specs.Registers.{Status}
+use Rattle.cop0.specs.File.{readOf, setHardwareOf}
+use Rattle.exception.specs.declared.returning.Returned.{Returned}
+use Rattle.exception.specs.Epilogue.{EPC}
+use Rattle.exception.specs.Taking.{ErrorEPC}
+
+-- resuming at register n, with Status bit b cleared
+abbrev pub returned : Cop0 → ℕ → ℕ → Returned
+returned c n b = record { pc = readOf c n; cop0 = setHardwareOf c Status (withFieldOf (readOf c Status) b b 0) }
+
+unfoldable pub eretOf : Cop0 → Returned
+eretOf c = cond (eqb (fieldOf (readOf c Status) 2 2) 1) (returned c ErrorEPC 2) (returned c EPC 1)
