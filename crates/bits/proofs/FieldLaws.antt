@@ -3,6 +3,7 @@ use mathlib.Core.Path.{_≡_, refl, ap, ap₂, sym, _∙_}
 use mathlib.Core.Bool.{Bool, true, false}
 use Prim.Native.Nat.{ℕ, zero, suc, _+_, _-_, _*_, _/_, _%_, _^_, _<_, _≤_}
 use native.Mathlib.Nat.{one-mul, mul-assoc, add-mul, add-assoc, div-one, mod-lt, mod-one, zero-mod, mod-eq-of-lt, div-eq-of-lt, div-le-self, lt-of-lt-of-le, lt-of-le-of-lt, pow-le-pow-right}
+use native.Mathlib.Decide.{decLe}
 use native.Mathlib.Omega.{arith}
 use lib.Arith.{digits-lt}
 use lib.Dec.{eqb}
@@ -57,7 +58,7 @@ module _ (x hi lo : ℕ) (le : lo ≤ hi) where
   width = omega arith
 
   -- below the bits above hi
-  rest : x % 2 ^ (hi + 1) ≡ fieldOf x hi lo * 2 ^ lo + x % 2 ^ lo
+  pub rest : x % 2 ^ (hi + 1) ≡ fieldOf x hi lo * 2 ^ lo + x % 2 ^ lo
   rest = ap (λ (k : ℕ). x % 2 ^ k) (sym width) ∙ mod-pow-add x (hi + 1 - lo) lo
 
   pub around : x ≡ x / 2 ^ (hi + 1) * 2 ^ (hi + 1) + fieldOf x hi lo * 2 ^ lo + x % 2 ^ lo
@@ -75,7 +76,7 @@ module _ (x hi lo : ℕ) (le : lo ≤ hi) where
   abbrev pub new : ℕ → ℕ
   new v = v % 2 ^ (hi + 1 - lo) * 2 ^ lo
 
-  new-lt : (v : ℕ) → new v + x % 2 ^ lo < 2 ^ (hi + 1)
+  pub new-lt : (v : ℕ) → new v + x % 2 ^ lo < 2 ^ (hi + 1)
   new-lt v = below (v % 2 ^ (hi + 1 - lo)) (mod-lt v (pow-pos (hi + 1 - lo)))
 
   -- the field can be taken away
@@ -97,7 +98,7 @@ module _ (x hi lo : ℕ) (le : lo ≤ hi) where
 
 -- a word with a field replaced
 module _ (x hi lo v : ℕ) (le : lo ≤ hi) (top : hi ≤ 63) where
-  made : withFieldOf x hi lo v ≡ x / 2 ^ (hi + 1) * 2 ^ (hi + 1) + (new x hi lo le v + x % 2 ^ lo)
+  pub made : withFieldOf x hi lo v ≡ x / 2 ^ (hi + 1) * 2 ^ (hi + 1) + (new x hi lo le v + x % 2 ^ lo)
   unfolding withFieldOf
   made = rw (le-leb lo hi le, le-leb hi 63 top) (add-assoc (x / 2 ^ (hi + 1) * 2 ^ (hi + 1)) (new x hi lo le v) (x % 2 ^ lo))
 
@@ -140,6 +141,23 @@ module _ (x hi lo v : ℕ) (le : lo ≤ hi) (top : hi ≤ 63) where
       ∙ shr-shr x (hi + 1) (lo′ - (hi + 1))
       ∙ ap (λ (k : ℕ). x / 2 ^ k) up)
 
+-- of two values put at the same place the later stands
+pub with-again : (x hi lo v w : ℕ) → lo ≤ hi → hi ≤ 63 → withFieldOf (withFieldOf x hi lo v) hi lo w ≡ withFieldOf x hi lo w
+with-again x hi lo v w le top =
+    made (withFieldOf x hi lo v) hi lo w le top
+    ∙ ap₂ (λ (a b : ℕ). a * 2 ^ (hi + 1) + (w % 2 ^ (hi + 1 - lo) * 2 ^ lo + b))
+    (with-above x hi lo v le top)
+    (with-below x hi lo v le top)
+    ∙ sym (made x hi lo w le top)
+
+-- and a field put back where it was changes nothing
+pub with-own : (x hi lo : ℕ) → lo ≤ hi → hi ≤ 63 → withFieldOf x hi lo (fieldOf x hi lo) ≡ x
+with-own x hi lo le top =
+    made x hi lo (fieldOf x hi lo) le top
+    ∙ ap (λ (f : ℕ). x / 2 ^ (hi + 1) * 2 ^ (hi + 1) + (f * 2 ^ lo + x % 2 ^ lo)) (mod-eq-of-lt (field-lt x hi lo))
+    ∙ sym (add-assoc (x / 2 ^ (hi + 1) * 2 ^ (hi + 1)) (fieldOf x hi lo * 2 ^ lo) (x % 2 ^ lo))
+    ∙ sym (around x hi lo le)
+
 -- a field below bit lo depends on the bits below lo alone
 low-field : (y hi′ lo′ lo : ℕ) → lo′ ≤ hi′ → hi′ < lo → fieldOf (y % 2 ^ lo) hi′ lo′ ≡ fieldOf y hi′ lo′
 low-field y hi′ lo′ lo le h =
@@ -159,6 +177,14 @@ field-lower x hi lo v le top hi′ lo′ le′ h =
     sym (low-field (withFieldOf x hi lo v) hi′ lo′ lo le′ h)
     ∙ ap (λ (y : ℕ). fieldOf y hi′ lo′) (with-below x hi lo v le top)
     ∙ low-field x hi′ lo′ lo le′ h
+
+-- a bit is kept where another one is replaced
+pub bit-apart : (x k v b : ℕ) → k ≤ 63 → (b ≡ k → ⊥) → fieldOf (withFieldOf x k k v) b b ≡ fieldOf x b b
+bit-apart x k v b top apart = go (decLe b k)
+  where
+    go : Dec (b ≤ k) → fieldOf (withFieldOf x k k v) b b ≡ fieldOf x b b
+    go (yes l) = field-lower x k k v (omega arith) top b b (omega arith) (omega arith)
+    go (no l) = field-higher x k k v (omega arith) top b b (omega arith)
 
 -- a field of one bit is 0 or 1
 pub bit-lt : (x b : ℕ) → fieldOf x b b < 2

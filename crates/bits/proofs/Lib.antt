@@ -1,5 +1,6 @@
 pub mod Same
 pub mod FieldLaws
 pub mod MaskLaws
+pub mod UnderLaws
 pub mod Unique
 pub mod Tables

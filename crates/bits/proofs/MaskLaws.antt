@@ -1,7 +1,7 @@
 -- Laws of words merged under a mask.
 use mathlib.Core.Path.{_≡_, refl, ap, ap₂, sym, _∙_}
 use Prim.Native.Nat.{ℕ, zero, suc, _+_, _-_, _*_, _/_, _%_, _^_, _<_, _≤_, min, max}
-use native.Mathlib.Nat.{mod-eq-of-lt, zero-add, suc-add, mul-one, mul-comm, mul-assoc, div-div-eq-div-mul, pow-suc, min-zero, max-zero, zero-max, min-eq-left, min-le-left, lt-of-le-of-lt}
+use native.Mathlib.Nat.{mod-eq-of-lt, zero-add, suc-add, mul-one, mul-comm, mul-assoc, div-div-eq-div-mul, pow-suc, min-zero, max-zero, zero-max, min-eq-left, min-le-left, min-le-right, lt-of-le-of-lt}
 use native.Mathlib.Omega.{arith}
 use mathlib.Core.Bool.{Bool, true, false, cond}
 use lib.Dec.{eqb}
@@ -97,6 +97,21 @@ merged-under (suc n) m x y h =
     (ap (λ (z : ℕ). bitAnd z (m / 2)) (merged-half n m x y)
     ∙ merged-under n (m / 2) (x / 2) (y / 2) (omega (arith, pow-suc 2 n)))
     (ap (λ (z : ℕ). min z (m % 2)) (merged-last n m x y) ∙ bit-under (m % 2) (x % 2) (y % 2) (omega arith))
+    ∙ sym (and-step x m)
+
+both-again : (a b : ℕ) → min (min a b) b ≡ min a b
+both-again a b = min-eq-left (min-le-right a b)
+
+-- a word under a mask is kept by the mask
+pub under-again : (n m x : ℕ) → m < 2 ^ n → bitAnd (bitAnd x m) m ≡ bitAnd x m
+under-again zero m x h =
+    let e : m ≡ 0 = omega arith in
+    rw e (and-zero-r (bitAnd x 0) ∙ sym (and-zero-r x))
+under-again (suc n) m x h =
+    and-step (bitAnd x m) m
+    ∙ ap₂ (λ (a b : ℕ). a * 2 + b)
+    (ap (λ (z : ℕ). bitAnd z (m / 2)) (and-half x m) ∙ under-again n (m / 2) (x / 2) (omega (arith, pow-suc 2 n)))
+    (ap (λ (z : ℕ). min z (m % 2)) (and-last x m) ∙ both-again (x % 2) (m % 2))
     ∙ sym (and-step x m)
 
 bit-again : (b : Bool) (x x′ y : ℕ) → cond b x (cond b x′ y) ≡ cond b x y

@@ -4,6 +4,7 @@ pub mod RandomLaws
 pub mod Timer
 pub mod FileLaws
 pub mod Edges
+pub mod Hardware
 pub mod Machine
 pub mod Order
 pub mod Cut

@@ -4,6 +4,7 @@ pub mod Interrupt
 pub mod Clock
 pub mod Random
 pub mod File
+pub mod Only
 pub mod Access
 pub mod Advance
 pub mod Machine

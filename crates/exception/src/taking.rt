@@ -13,7 +13,13 @@ use cop0::Cop0;
 
 // Takes an exception (UM figure 6-14): records its cause and, where it has one, its faulting address, sets EXL, and tells where
 // to fetch next. `pc` is the address of the instruction that faulted.
-pub fn dispatch(cop0: Cop0, exc: Exception, pc: u64, in_delay_slot: bool, bad_vaddr: u64) -> Dispatched
+pub fn dispatch(
+    cop0: Cop0,
+    exc: Exception,
+    pc: u64,
+    in_delay_slot: bool,
+    bad_vaddr: u64,
+) -> Dispatched
     ensures { λ r. ⌜ r ≡ dispatchOf cop0 exc pc «in_delay_slot» «bad_vaddr» ⌝ }
 {
     let kind = kinds::vector_kind_of(exc);

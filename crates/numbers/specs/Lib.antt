@@ -2,3 +2,4 @@ pub mod Table
 pub mod RegisterFile
 pub mod Translation
 pub mod Segments
+pub mod Exceptions

@@ -1,24 +1,20 @@
 -- An entry that is written and read again gives back the written registers, each with the bits that an entry keeps of it.
 use mathlib.Core.Path.{_≡_, refl, ap, _∙_}
-use mathlib.Core.Bool.{Bool, true, false, cond}
-use mathlib.Core.List.{List, [], _∷_}
+use mathlib.Core.Bool.{Bool, true, false}
 use Prim.Native.Nat.{ℕ, _+_, _-_, _*_, _/_, _%_, _^_, _<_}
 use native.Mathlib.Nat.{add-assoc, lt-of-le-of-lt}
-use native.Mathlib.Decide.{ℕ-discrete}
 use native.Mathlib.Omega.{arith}
-use lib.Dec.{eqb}
 use lib.Bits.{bitOr, or-shifted, and-high}
-use lib.ListN.{length, length-set}
-use lib.Seq.{getD-set-same, getD-set-other}
-use borrow.Author.Tests.{eq-eqb, ne-eqb}
+use lib.ListN.{length}
+use lib.Seq.{getD-set-same}
 use Rattle.bits.specs.Field.{fieldOf, bit}
 use Rattle.bits.specs.Mask.{under, mergedBits}
 use Rattle.bits.proofs.FieldLaws.{field-lt, bit-tested, or-places, fields-join}
 use Rattle.bits.proofs.MaskLaws.{merged-shift, cleared-le, under-ones, under-block}
 use Rattle.cop0.specs.declared.registers.Cop0.{Cop0}
 use Rattle.cop0.specs.Registers.{among, unused, archMask}
-use Rattle.cop0.specs.Record.{reg}
 use Rattle.cop0.specs.File.{readAt, readOf, setHardwareOf}
+use Rattle.cop0.proofs.Hardware.{set-file, read-past, read-back}
 use Rattle.tlb.specs.declared.entries.Entry.{Entry}
 use Rattle.tlb.specs.declared.table.Tlb.{Tlb}
 use Rattle.tlb.specs.Entries.{vpn2Of}
@@ -81,46 +77,6 @@ lo-joined lo g =
 lo-kept : (lo : ℕ) (g : Bool) → under (2 ^ 30 - 1) (fieldOf lo 25 1 * 2 + bit g) ≡ fieldOf lo 25 1 * 2 + bit g
 lo-kept lo g = under-ones 30 (fieldOf lo 25 1 * 2 + bit g) (omega (arith, field-lt lo 25 1, a-bit g))
 
--- registers set by hardware one after another, the last of them first
-abbrev after : Cop0 → List (ℕ × ℕ) → Cop0
-after c [] = c
-after c ((m, v) ∷ vs) = setHardwareOf (after c vs) m v
-
--- what register n then holds, if it held x before
-abbrev held : ℕ → ℕ → List (ℕ × ℕ) → ℕ
-held x n [] = x
-held x n ((m, v) ∷ vs) = cond (eqb n (m % 32)) (under (archMask n) v) (held x n vs)
-
-module _ (c : Cop0) where
-  -- they stay as many
-  same-length : (vs : List (ℕ × ℕ)) → length (after c vs .regs) ≡ length (c .regs)
-  unfolding setHardwareOf
-  same-length [] = refl
-  same-length ((m, v) ∷ vs) = length-set (after c vs .regs) (m % 32) (under (archMask (m % 32)) v) ∙ same-length vs
-
-  -- and each holds what it was set to last
-  last-set : (n : ℕ) (vs : List (ℕ × ℕ)) → n < length (c .regs) → reg (after c vs) n ≡ held (reg c n) n vs
-  unfolding setHardwareOf
-  last-set n [] h = refl
-  last-set n ((m, v) ∷ vs) h = go (ℕ-discrete n (m % 32)) (last-set n vs h)
-    where
-      go : Dec (n ≡ m % 32) → reg (after c vs) n ≡ held (reg c n) n vs
-          → reg (setHardwareOf (after c vs) m v) n ≡ cond (eqb n (m % 32)) (under (archMask n) v) (held (reg c n) n vs)
-      go (yes p) rest =
-          rw (eq-eqb n (m % 32) p, ← p)
-          (getD-set-same (after c vs .regs) n (under (archMask n) v) 0 (omega (arith, same-length vs)))
-      go (no p) rest =
-          rw (ne-eqb n (m % 32) p) (getD-set-other (after c vs .regs) (m % 32) n (under (archMask (m % 32)) v) 0 p ∙ rest)
-
--- the registers that an entry is read into
-abbrev registersOf : Entry → List (ℕ × ℕ)
-registersOf e =
-    (EntryLo1, loOf (e .lo1) (e .global))
-    ∷ (EntryLo0, loOf (e .lo0) (e .global))
-    ∷ (EntryHi, hiOf e)
-    ∷ (PageMask, e .«page_mask»)
-    ∷ []
-
 -- EntryLo0 is the even half's, EntryLo1 the odd one's
 abbrev pub entryLo : Bool → ℕ
 entryLo false = EntryLo0
@@ -136,21 +92,41 @@ module _ (t : Tlb) (i : ℕ) (c d : Cop0) (entries : length (t .entries) ≡ 32)
   unfolding writtenOf
   same-entry = getD-set-same (t .entries) (i % 32) (entryOf c) (withVpn2 0) (omega arith)
 
-  r-is : r ≡ after d (registersOf (entryOf c))
-  unfolding readEntryOf
-  r-is = ap (λ (e : Entry). after d (registersOf e)) same-entry
+  abbrev e : Entry
+  e = entryOf c
 
-  -- a register that is neither unused nor Count nor Config, set to x, which is v, reads v if it has those bits
-  reads : (n : ℕ) {x v : ℕ} → n < 32 → ((f : Cop0) → readAt f n ≡ under (archMask n) (reg f n))
-      → held (reg d n) n (registersOf (entryOf c)) ≡ under (archMask n) x → x ≡ v → under (archMask n) v ≡ v → readAt r n ≡ v
-  reads n h plain e same kept =
-      let rs : List (ℕ × ℕ) = registersOf (entryOf c) in
-      rw r-is (plain (after d rs) ∙ rw (last-set d n rs (omega arith), e, same, kept) kept)
+  -- the registers, each set to its part of the entry: PageMask, EntryHi, EntryLo0 and, last, EntryLo1
+  abbrev d₁ : Cop0
+  d₁ = setHardwareOf d PageMask (e .«page_mask»)
+
+  abbrev d₂ : Cop0
+  d₂ = setHardwareOf d₁ EntryHi (hiOf e)
+
+  abbrev d₃ : Cop0
+  d₃ = setHardwareOf d₂ EntryLo0 (loOf (e .lo0) (e .global))
+
+  r-is : r ≡ setHardwareOf d₃ EntryLo1 (loOf (e .lo1) (e .global))
+  unfolding readEntryOf
+  r-is = rw same-entry
+
+  file₁ : length (d₁ .regs) ≡ 32
+  file₁ = set-file d PageMask _ 32 file
+
+  file₂ : length (d₂ .regs) ≡ 32
+  file₂ = set-file d₁ EntryHi _ 32 file₁
+
+  file₃ : length (d₃ .regs) ≡ 32
+  file₃ = set-file d₂ EntryLo0 _ 32 file₂
 
   -- the canonical mask
   pub mask-back : readOf r PageMask ≡ canonicalOf (readOf c PageMask)
   unfolding readAt unused among entryOf
-  mask-back = reads PageMask (omega arith) (λ f. refl) refl refl (mask-kept (readOf c PageMask))
+  mask-back =
+      ap (λ (x : Cop0). readOf x PageMask) r-is
+      ∙ read-past PageMask (λ f. refl) EntryLo1 _ d₃ refl refl
+      ∙ read-past PageMask (λ f. refl) EntryLo0 _ d₂ refl refl
+      ∙ read-past PageMask (λ f. refl) EntryHi _ d₁ refl refl
+      ∙ read-back PageMask (λ f. refl) (omega arith) d file _ (mask-kept (readOf c PageMask))
 
   -- R, VPN2 outside the mask, ASID
   pub hi-back : readOf r EntryHi
@@ -159,7 +135,11 @@ module _ (t : Tlb) (i : ℕ) (c d : Cop0) (entries : length (t .entries) ≡ 32)
   hi-back =
       let x : ℕ = readOf c PageMask in
       let v : ℕ = readOf c EntryHi in
-      reads EntryHi (omega arith) (λ f. refl) refl (hi-joined x v) (hi-kept x v)
+      ap (λ (x : Cop0). readOf x EntryHi) r-is
+      ∙ read-past EntryHi (λ f. refl) EntryLo1 _ d₃ refl refl
+      ∙ read-past EntryHi (λ f. refl) EntryLo0 _ d₂ refl refl
+      ∙ ap (λ (y : ℕ). readOf (setHardwareOf d₁ EntryHi y) EntryHi) (hi-joined x v)
+      ∙ read-back EntryHi (λ f. refl) (omega arith) d₁ file₁ _ (hi-kept x v)
 
   -- G of both halves
   abbrev pub g : Bool
@@ -168,5 +148,14 @@ module _ (t : Tlb) (i : ℕ) (c d : Cop0) (entries : length (t .entries) ≡ 32)
   -- PFN, C, D and V (bits 25..1), and that G; of the even half, or of the odd one
   pub lo-back : (odd : Bool) → readOf r (entryLo odd) ≡ fieldOf (readOf c (entryLo odd)) 25 1 * 2 + bit g
   unfolding readAt unused among entryOf archMask
-  lo-back false = reads EntryLo0 (omega arith) (λ f. refl) refl (lo-joined (readOf c EntryLo0) g) (lo-kept (readOf c EntryLo0) g)
-  lo-back true = reads EntryLo1 (omega arith) (λ f. refl) refl (lo-joined (readOf c EntryLo1) g) (lo-kept (readOf c EntryLo1) g)
+  lo-back false =
+      let lo : ℕ = readOf c EntryLo0 in
+      ap (λ (x : Cop0). readOf x EntryLo0) r-is
+      ∙ read-past EntryLo0 (λ f. refl) EntryLo1 _ d₃ refl refl
+      ∙ ap (λ (y : ℕ). readOf (setHardwareOf d₂ EntryLo0 y) EntryLo0) (lo-joined lo g)
+      ∙ read-back EntryLo0 (λ f. refl) (omega arith) d₂ file₂ _ (lo-kept lo g)
+  lo-back true =
+      let lo : ℕ = readOf c EntryLo1 in
+      ap (λ (x : Cop0). readOf x EntryLo1) r-is
+      ∙ ap (λ (y : ℕ). readOf (setHardwareOf d₃ EntryLo1 y) EntryLo1) (lo-joined lo g)
+      ∙ read-back EntryLo1 (λ f. refl) (omega arith) d₃ file₃ _ (lo-kept lo g)
