@@ -1,11 +1,11 @@
-// The kinds of operands: the greatest number that one of each kind may be, and what a number stands for. A number over its
-// limit is cut short here; `request::checked` then turns its line away.
+// The kinds of operands: the greatest number that one of each kind may be, and what a number stands for. It doesn't matter
+// what a greater one stands for: `request::checked` turns its line away.
 use addr::Access;
 use addr::Mode;
 use exception::Exception;
 use exception::VectorKind;
 
-// An operand that the exception does not have.
+// The greatest numbers. An operand that an exception does not have is unused.
 pub const UNUSED: u64 = 0;
 
 pub const FLAG: u64 = 1;

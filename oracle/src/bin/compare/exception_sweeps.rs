@@ -2,23 +2,19 @@
 
 use original::cop0::reg;
 
+use crate::aim::bits;
 use crate::draft::Draft;
 use crate::exceptions::{
     self, ADDRESS_ERROR, BOUNDS, COPROCESSOR_UNUSABLE, PLACES, SYSCALL, TLB_INVALID, TLB_MODIFIED,
     TLB_REFILL,
 };
 
-/// Numbers of eight Statuses: EXL, ERL and BEV are the bits of one.
-const LEVELS: std::ops::Range<u64> = 0..8;
+/// The bit of Status that an exception sets.
+const EXL: u64 = 1 << 1;
 
-/// The Status of a number of [`LEVELS`].
-fn status(levels: u64) -> u64 {
-    (levels & 0b11) << 1 | levels >> 2 << 22
-}
-
-/// Each bit alone, and each missing alone.
-fn bits() -> impl Iterator<Item = u64> {
-    (0..64).flat_map(|bit| [1 << bit, !(1 << bit)])
+/// Each EXL, ERL and BEV, with all else of Status clear.
+fn statuses() -> impl Iterator<Item = u64> {
+    (0..8).map(|levels| (levels & 0b11) << 1 | levels >> 2 << 22)
 }
 
 fn set(draft: &mut Draft, register: u8, value: u64) {
@@ -33,19 +29,19 @@ fn dispatch(draft: &mut Draft, [number, a, b]: [u64; 3], pc: u64, slot: u64, bad
     draft.put("dispatch", &[number, a, b, pc, slot, bad]);
 }
 
-/// One exception under each of the levels, at each place, in a delay slot and not, from each of
-/// the bounds of an address; and all that it leaves. What is to be kept is set, or it is clear.
+/// One exception under each EXL, ERL and BEV, in a delay slot and not, at each place and from each
+/// bound of an address; and all that it leaves. What it keeps of the registers is all set, or all
+/// clear.
 pub fn every_taking(draft: &mut Draft, number: u64) {
     let exception = exceptions::all()[number as usize];
-    for levels in LEVELS {
-        for slot in 0..2 {
-            let kept = if slot == 0 { u64::MAX } else { 0 };
+    for status in statuses() {
+        for (slot, before) in [(0, u64::MAX), (1, 0)] {
             for register in [reg::CAUSE, reg::CONTEXT, reg::XCONTEXT, reg::ENTRY_HI] {
-                set(draft, register, kept);
+                set(draft, register, before);
             }
             for pc in PLACES {
                 for bad in BOUNDS {
-                    set(draft, reg::STATUS, status(levels));
+                    set(draft, reg::STATUS, status);
                     dispatch(draft, exception, pc, slot, bad);
                     draft.put("state", &[]);
                 }
@@ -54,9 +50,9 @@ pub fn every_taking(draft: &mut Draft, number: u64) {
     }
 }
 
-/// Each kind under each bit of Status and under each of the levels.
+/// Each kind under each bit of Status, and under each EXL, ERL and BEV.
 pub fn every_vector(draft: &mut Draft) {
-    for status in bits().chain(LEVELS.map(status)) {
+    for status in bits().chain(statuses()) {
         for kind in 0..4 {
             draft.put("vector", &[status, kind]);
         }
@@ -68,8 +64,8 @@ pub fn every_vector(draft: &mut Draft) {
 pub fn every_cause_bit(draft: &mut Draft) {
     for exception in [[COPROCESSOR_UNUSABLE, 2, 0], [TLB_INVALID, 1, 0], [SYSCALL, 0, 0]] {
         for cause in bits() {
-            for (exl, slot) in [(0, 0), (0, 1), (1, 0), (1, 1)] {
-                set(draft, reg::STATUS, status(exl));
+            for (status, slot) in [(0, 0), (0, 1), (EXL, 0), (EXL, 1)] {
+                set(draft, reg::STATUS, status);
                 set(draft, reg::CAUSE, cause);
                 dispatch(draft, exception, 0x40, slot, 0);
                 read(draft, reg::CAUSE);
@@ -110,11 +106,10 @@ pub fn every_nesting(draft: &mut Draft) {
     }
 }
 
-/// NMI under each bit of Status, and under each of the levels at each place; and the way back.
+/// NMI under each bit of Status, and at each place under each EXL, ERL and BEV; and the way back.
 pub fn every_nmi(draft: &mut Draft) {
     let under_bits = bits().map(|status| (status, 0x40));
-    let at_places =
-        PLACES.into_iter().flat_map(|pc| LEVELS.map(move |levels| (status(levels), pc)));
+    let at_places = PLACES.into_iter().flat_map(|pc| statuses().map(move |status| (status, pc)));
     for (status, pc) in under_bits.chain(at_places) {
         set(draft, reg::STATUS, status);
         draft.put("nmi", &[pc]);
@@ -125,8 +120,8 @@ pub fn every_nmi(draft: &mut Draft) {
     }
 }
 
-/// A return under each bit of Status, and one after another under each of the levels, to each
-/// place by EPC and by ErrorEPC.
+/// A return under each bit of Status; and to each place under each EXL, ERL and BEV, one after
+/// another.
 pub fn every_return(draft: &mut Draft) {
     for status in bits() {
         set(draft, reg::STATUS, status);
@@ -136,8 +131,8 @@ pub fn every_return(draft: &mut Draft) {
     for pc in PLACES {
         draft.put("dmtc0", &[reg::EPC.into(), pc]);
         draft.put("dmtc0", &[reg::ERROR_EPC.into(), !pc]);
-        for levels in LEVELS {
-            set(draft, reg::STATUS, status(levels));
+        for status in statuses() {
+            set(draft, reg::STATUS, status);
             for _ in 0..3 {
                 draft.put("eret", &[]);
                 read(draft, reg::STATUS);

@@ -40,7 +40,7 @@ const REGISTERS: [u8; 8] = [
     reg::ENTRY_HI,
 ];
 
-/// Where an instruction may stand: the branch before the first lies at the end of all.
+/// Where an instruction may stand. The branch before one at 0 or 3 stands at the end of all.
 pub const PLACES: [u64; 7] = [0, 4, 3, 1 << 63, u64::MAX - 3, u64::MAX, 0xFFFF_FFFF_8000_0180];
 
 /// Addresses at the bounds of the fields that are taken from one: 31..13, 39..13 and 63..62.

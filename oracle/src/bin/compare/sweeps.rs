@@ -62,13 +62,11 @@ pub fn sweep(number: u64) -> Option<Vec<u8>> {
 
 /// Each bit of a register alone and each missing alone, by each way of writing.
 fn every_bit(draft: &mut Draft, register: u64) {
-    for bit in 0..64 {
-        for value in [1 << bit, !(1 << bit)] {
-            for name in ["mtc0", "dmtc0", "write", "set_hardware"] {
-                draft.put(name, &[register, value]);
-                draft.put("mfc0", &[register]);
-                draft.put("dmfc0", &[register]);
-            }
+    for value in aim::bits() {
+        for name in ["mtc0", "dmtc0", "write", "set_hardware"] {
+            draft.put(name, &[register, value]);
+            draft.put("mfc0", &[register]);
+            draft.put("dmfc0", &[register]);
         }
     }
 }
@@ -145,8 +143,7 @@ fn every_segment(draft: &mut Draft) {
 
 /// Each mode, width and level of Status, and each of its bits.
 fn every_access(draft: &mut Draft) {
-    let bits = (0..64).flat_map(|bit| [1 << bit, !(1 << bit)]);
-    for status in (0..256).chain(bits) {
+    for status in (0..256).chain(aim::bits()) {
         draft.put("set_hardware", &[reg::STATUS.into(), status]);
         draft.put("access", &[]);
     }
@@ -157,15 +154,13 @@ fn every_access(draft: &mut Draft) {
 fn every_field(draft: &mut Draft) {
     let mut number = 0;
     for register in [reg::ENTRY_HI, reg::PAGE_MASK, reg::ENTRY_LO0, reg::ENTRY_LO1] {
-        for bit in 0..64 {
-            for value in [1 << bit, !(1 << bit)] {
-                number += 1;
-                draft.put("dmtc0", &[register.into(), value]);
-                draft.put("write_entry", &[number]);
-                draft.put("entry", &[number % 32]);
-                draft.put("read_entry", &[number]);
-                draft.put("dmfc0", &[register.into()]);
-            }
+        for value in aim::bits() {
+            number += 1;
+            draft.put("dmtc0", &[register.into(), value]);
+            draft.put("write_entry", &[number]);
+            draft.put("entry", &[number % 32]);
+            draft.put("read_entry", &[number]);
+            draft.put("dmfc0", &[register.into()]);
         }
     }
 }
