@@ -3,6 +3,7 @@
 use std::fmt::Write;
 
 use original::addr::{Access, Cached, Mode, Physical, Segment, TranslateError};
+use original::exception::Dispatch;
 use original::tlb::{Entry, PageEntry, TlbFault, Translated, JTLB_ENTRIES};
 
 /// What stands for an empty slot of the micro-TLB.
@@ -91,6 +92,10 @@ pub fn access(access: Access) -> String {
         Mode::User => 2,
     };
     Line::new("access").number(mode).flag(access.wide).flag(access.erl).0
+}
+
+pub fn dispatch(taken: Dispatch) -> String {
+    Line::new("vector").number(taken.vector).number(taken.stall_cycles).0
 }
 
 /// The flag is UNCACHED for a lookup and CACHED for a translation.

@@ -2,11 +2,13 @@
 
 use original::addr::{self, Access};
 use original::cop0::{self, Cop0, Cop0Op};
+use original::exception;
 use original::tlb::Tlb;
 
 use crate::answers;
+use crate::exceptions::{self, VECTOR_KINDS};
 use crate::machine::{Machine, Refusal};
-use crate::parse::Operand::{self, Byte, Flag, Long, Mode, Word};
+use crate::parse::Operand::{self, Byte, Exception, Flag, Long, Mode, Vector, Word, A, B};
 use Run::{Asks, Does, Gives, Says};
 
 /// One operation of the trace format.
@@ -66,6 +68,10 @@ pub static OPERATIONS: &[Operation] = &[
     row("segment", &[Long, Mode, Flag, Flag], Says(|_, a| Ok(segment(a)))),
     row("translate_via", &[Long, Byte, Flag, Mode, Flag, Flag], Says(|m, a| Ok(translate(m, a)))),
     row("access", &[], Says(|m, _| m.access().map(answers::access))),
+    row("vector", &[Long, Vector], Gives(|_, a| vector(a))),
+    row("dispatch", &[Exception, A, B, Long, Flag, Long], Says(|m, a| Ok(dispatch(m, a)))),
+    row("nmi", &[Long], Says(|m, a| Ok(nmi(m, a)))),
+    row("eret", &[], Gives(|m, _| exception::eret(&mut m.cop0))),
     row("state", &[], Says(|m, _| Ok(m.state()))),
 ];
 
@@ -94,7 +100,7 @@ impl Operation {
 }
 
 /// An operand that its row bounds to 8 bits.
-fn byte(operand: u64) -> u8 {
+pub fn byte(operand: u64) -> u8 {
     u8::try_from(operand).expect("the row says Byte")
 }
 
@@ -136,4 +142,18 @@ fn translate(machine: &mut Machine, operands: &[u64]) -> String {
 pub fn access(operands: &[u64]) -> Access {
     const MODES: [addr::Mode; 3] = [addr::Mode::Kernel, addr::Mode::Supervisor, addr::Mode::User];
     Access { mode: MODES[operands[0] as usize], wide: operands[1] == 1, erl: operands[2] == 1 }
+}
+
+fn vector(operands: &[u64]) -> u64 {
+    exception::vector(operands[0], VECTOR_KINDS[operands[1] as usize])
+}
+
+fn dispatch(machine: &mut Machine, operands: &[u64]) -> String {
+    let exc = exceptions::exception(operands);
+    let (pc, slot, bad) = (operands[3], operands[4] == 1, operands[5]);
+    answers::dispatch(exception::dispatch(&mut machine.cop0, exc, pc, slot, bad))
+}
+
+fn nmi(machine: &mut Machine, operands: &[u64]) -> String {
+    answers::dispatch(exception::nmi(&mut machine.cop0, operands[0]))
 }

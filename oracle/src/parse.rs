@@ -3,6 +3,7 @@
 //! All of it works on bytes: a trace may hold any, and outside a comment one that is no ASCII is a
 //! character like the rest.
 
+use crate::exceptions::{self, EXCEPTIONS, VECTOR_KINDS};
 use crate::operations::{self, Operation};
 
 /// A whole trace is at most this many bytes.
@@ -48,16 +49,31 @@ pub enum Operand {
     Word,
     /// 64 bits.
     Long,
+    /// A vector's kind, by its number.
+    Vector,
+    /// An exception, by its number.
+    Exception,
+    /// The operands A and B of the exception that the line starts with.
+    A,
+    B,
+    /// Nothing, which is written 0.
+    Unused,
 }
 
 impl Operand {
-    pub fn greatest(self) -> u64 {
+    /// The greatest number that it may be on a line of these numbers.
+    pub fn greatest(self, line: &[u64]) -> u64 {
         match self {
             Self::Flag => 1,
             Self::Mode => 2,
             Self::Byte => u64::from(u8::MAX),
             Self::Word => u64::from(u32::MAX),
             Self::Long => u64::MAX,
+            Self::Vector => VECTOR_KINDS.len() as u64 - 1,
+            Self::Exception => EXCEPTIONS.len() as u64 - 1,
+            Self::A => exceptions::detail(line[0], 0).greatest(line),
+            Self::B => exceptions::detail(line[0], 1).greatest(line),
+            Self::Unused => 0,
         }
     }
 }
@@ -107,7 +123,7 @@ pub fn parse(line: &[u8]) -> Result<Option<Call>, Fault> {
     let operands: Option<Vec<u64>> = words.into_iter().map(number).collect();
     let operands = operands.ok_or(Fault::BadNumber)?;
     let mut pairs = operands.iter().zip(operation.operands);
-    if !pairs.all(|(value, operand)| *value <= operand.greatest()) {
+    if !pairs.all(|(value, operand)| *value <= operand.greatest(&operands)) {
         return Err(Fault::OutOfRange);
     }
     Ok(Some(Call { operation, operands }))
@@ -175,6 +191,30 @@ mod tests {
         assert_eq!(operands(b"page_size ffffffff"), [u64::from(u32::MAX)]);
         assert_eq!(fault(b"page_size 100000000"), Some(Fault::OutOfRange));
         assert_eq!(fault(b"lookup 0 100 0"), Some(Fault::OutOfRange));
+        assert_eq!(operands(b"vector 0 3"), [0, 3]);
+        assert_eq!(fault(b"vector 0 4"), Some(Fault::OutOfRange));
+    }
+
+    /// EXC bounds A and B.
+    #[test]
+    fn bounds_of_an_exception() {
+        assert_eq!(operands(b"dispatch d 0 0 0 1 0"), [13, 0, 0, 0, 1, 0]);
+        assert_eq!(operands(b"dispatch a 1 1 0 0 0"), [10, 1, 1, 0, 0, 0]);
+        assert_eq!(operands(b"dispatch 8 ff 0 0 0 0"), [8, 255, 0, 0, 0, 0]);
+        let over = [
+            b"dispatch e 0 0 0 0 0" as &[u8],
+            b"dispatch ffffffffffffffff 0 0 0 0 0",
+            b"dispatch 0 1 0 0 0 0",
+            b"dispatch 1 2 0 0 0 0",
+            b"dispatch 1 0 1 0 0 0",
+            b"dispatch 7 100 0 0 0 0",
+            b"dispatch a 0 2 0 0 0",
+            b"dispatch 0 0 0 0 2 0",
+        ];
+        for line in over {
+            assert_eq!(fault(line), Some(Fault::OutOfRange), "{line:?}");
+        }
+        assert_eq!(fault(b"dispatch e 1 1 0 0 g"), Some(Fault::BadNumber));
     }
 
     #[test]

@@ -118,6 +118,17 @@ mod tests {
         assert_eq!(text(trace), answers);
     }
 
+    /// A store that misses, in a delay slot at 0, from a fresh start out of ERL; P8 and the return.
+    #[test]
+    fn words_of_exceptions() {
+        let trace = b"eret\ndispatch a 1 0 0 1 2000\nmfc0 d\neret\nvector 2 1\nnmi 8\neret";
+        let answers = "= 0000000000000000\n\
+                       vector ffffffffbfc00200 0000000000000002\n= ffffffff8000000c\n\
+                       = fffffffffffffffc\n= ffffffff80000180\n\
+                       vector ffffffffbfc00000 0000000000000002\n= 0000000000000008";
+        assert_eq!(text(trace), answers);
+    }
+
     #[test]
     fn the_limit() {
         let mut trace = b"timer_edge\n#".to_vec();

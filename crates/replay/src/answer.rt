@@ -9,6 +9,7 @@ use crate::step::Place;
 use addr::Access;
 use addr::Mode;
 use cop0::Cop0;
+use exception::Dispatch;
 use tlb::Entry;
 use tlb::Tlb;
 use tlb::TlbFault;
@@ -27,6 +28,7 @@ pub fn write(out: &mut [u8], used: usize, answer: Answer, s: Session) -> usize
         Answer::Place(place) => of_place(out, used, place),
         Answer::Entry(i, e) => of_entry(out, used, i, e),
         Answer::Access(access) => of_access(out, used, access),
+        Answer::Vector(taken) => of_dispatch(out, used, taken),
         Answer::State => of_state(out, used, s),
     }
 }
@@ -119,6 +121,14 @@ fn mode_number(mode: Mode) -> u64 {
         Mode::Supervisor => 1,
         Mode::User => 2,
     }
+}
+
+fn of_dispatch(out: &mut [u8], used: usize, taken: Dispatch) -> usize
+    requires { ⌜ used ≤ length (now out) ⌝ }
+    ensures { λ r. ⌜ r ≤ length (now (out .exit)) ⌝ }
+{
+    let values = [taken.vector, taken.stall_cycles as u64];
+    line(out, used, b"vector", b"nn", &values)
 }
 
 // All that a run works on.

@@ -1,11 +1,16 @@
-// Plays traces of COP0 and TLB operations and writes an answer to each operation (docs/TRACE.md says what a trace is).
+// Plays traces of COP0, TLB and exception operations and writes an answer to each operation (docs/TRACE.md says what a
+// trace is).
 //
 // From bytes to an answer: `input` reads a trace whole, `trace` goes through it line by line, `line` finds words,
-// `operand` and `number` read the operands, `op` has the operations and their names (`register_op`, `translation_op`),
-// `request` makes one `Op` of a line, `step` plays it on the `session` (`register_step`, `translation_step`), `answer` says
-// what came of it, and `output` holds the text until there is much to write.
+// `operand` and `number` read the operands, `kind` says what their numbers stand for, `op` has the operations and their
+// names (`register_op`, `translation_op`, `exception_op`), `request` makes one `Op` of a line, `step` plays it on the
+// `session` (`register_step`, `translation_step`, `exception_step`), `answer` says what came of it, and `output` holds the
+// text until there is much to write.
 mod answer;
+mod exception_op;
+mod exception_step;
 mod input;
+mod kind;
 mod line;
 mod number;
 mod op;

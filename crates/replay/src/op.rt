@@ -1,6 +1,7 @@
-// The operations: those of the whole session, and those of each part of it. `register_op` and `translation_op` have the
-// parts' operations with their names. A new one is a variant there, a row among those that take the same operands, and an
-// arm of `register_step::play` or `translation_step::play`.
+// The operations: those of the whole session, and those of each part of it. `register_op`, `translation_op` and
+// `exception_op` have the parts' operations with their names. A new one is a variant there, a row among those that take
+// the same operands, and an arm of its part's `play` (`register_step`, `translation_step`, `exception_step`).
+use crate::exception_op::ExceptionOp;
 use crate::register_op::RegisterOp;
 use crate::translation_op::TranslationOp;
 use check::same;
@@ -11,6 +12,7 @@ pub enum Op {
     State,
     Register(RegisterOp),
     Translation(TranslationOp),
+    Exception(ExceptionOp),
 }
 
 // What a name is among the operations that take the same operands.

@@ -1,6 +1,20 @@
 // What a line asks: an operation, nothing, or something that is wrong.
 ghost use mathlib.Core.Path.{_≡_};
 ghost use Rattle.replay.specs.Request.{over, checkedOf};
+use crate::exception_op::ExceptionOp;
+use crate::kind::BYTE;
+use crate::kind::EXCEPTION;
+use crate::kind::FLAG;
+use crate::kind::LONG;
+use crate::kind::MODE;
+use crate::kind::VECTOR;
+use crate::kind::WORD;
+use crate::kind::access_of;
+use crate::kind::byte;
+use crate::kind::exception_of;
+use crate::kind::flag;
+use crate::kind::vector_of;
+use crate::kind::word;
 use crate::line;
 use crate::line::Stop;
 use crate::op::Named;
@@ -8,8 +22,6 @@ use crate::op::Op;
 use crate::operand::Operands;
 use crate::register_op::RegisterOp;
 use crate::translation_op::TranslationOp;
-use addr::Access;
-use addr::Mode;
 
 // What is wrong with a line, in the order in which it is checked.
 pub enum Fault {
@@ -39,17 +51,6 @@ pub fn read(line: &[u8]) -> Asked {
     lookup(&line[at..end], args)
 }
 
-// The greatest number that an operand of each kind may be.
-const FLAG: u64 = 1;
-
-const MODE: u64 = 2;
-
-const BYTE: u64 = 0xff;
-
-const WORD: u64 = 0xffff_ffff;
-
-const LONG: u64 = 0xffff_ffff_ffff_ffff;
-
 // The operation of a name: first among those without operands, then among those of one, of two and of more, with a table
 // for each kind of operands. A number that its operand can't hold is cut short on the way, and `checked` then turns the
 // line away.
@@ -61,6 +62,9 @@ fn lookup(name: &[u8], args: Operands) -> Asked {
         return checked(op, args, &[]);
     }
     if let Named::This(op) = TranslationOp::plain(name) {
+        return checked(op, args, &[]);
+    }
+    if let Named::This(op) = ExceptionOp::plain(name) {
         return checked(op, args, &[]);
     }
     of_one(name, args)
@@ -78,6 +82,9 @@ fn of_one(name: &[u8], args: Operands) -> Asked {
         return checked(op, args, &[WORD]);
     }
     if let Named::This(op) = TranslationOp::of_long(name, value) {
+        return checked(op, args, &[LONG]);
+    }
+    if let Named::This(op) = ExceptionOp::of_long(name, value) {
         return checked(op, args, &[LONG]);
     }
     of_two(name, args)
@@ -98,6 +105,9 @@ fn of_two(name: &[u8], args: Operands) -> Asked {
     if let Named::This(op) = TranslationOp::of_long_byte(name, first, byte(second)) {
         return checked(op, args, &[LONG, BYTE]);
     }
+    if let Named::This(op) = ExceptionOp::of_long_vector(name, first, vector_of(second)) {
+        return checked(op, args, &[LONG, VECTOR]);
+    }
     of_more(name, args)
 }
 
@@ -116,36 +126,18 @@ fn of_more(name: &[u8], args: Operands) -> Asked {
     if let Named::This(op) = TranslationOp::of_all(name, v[0], asid, store, access) {
         return checked(op, args, &[LONG, BYTE, FLAG, MODE, FLAG, FLAG]);
     }
+    of_exception(name, args)
+}
+
+// The exception itself says what its operands A and B may be.
+fn of_exception(name: &[u8], args: Operands) -> Asked {
+    let v = args.values;
+    let made = exception_of(v[0], v[1], v[2]);
+    let exc = made.exc;
+    if let Named::This(op) = ExceptionOp::of_exception(name, exc, v[3], flag(v[4]), v[5]) {
+        return checked(op, args, &[EXCEPTION, made.a, made.b, LONG, FLAG, LONG]);
+    }
     Asked::Wrong(Fault::UnknownOperation)
-}
-
-fn byte(value: u64) -> u8 {
-    (value % 256) as u8
-}
-
-fn word(value: u64) -> u32 {
-    (value % 0x1_0000_0000) as u32
-}
-
-fn flag(value: u64) -> bool {
-    value == 1
-}
-
-// A mode, its width and ERL.
-fn access_of(mode: u64, wide: u64, erl: u64) -> Access {
-    Access {
-        mode: mode_of(mode),
-        wide: flag(wide),
-        erl: flag(erl),
-    }
-}
-
-fn mode_of(value: u64) -> Mode {
-    match value {
-        0 => Mode::Kernel,
-        1 => Mode::Supervisor,
-        _ => Mode::User,
-    }
 }
 
 // The operation, where there is an operand for each limit, all are numbers, and none is over its limit. Each check goes

@@ -1,9 +1,11 @@
 // One operation, played.
+use crate::exception_step;
 use crate::op::Op;
 use crate::register_step;
 use crate::session::Session;
 use crate::translation_step;
 use addr::Access;
+use exception::Dispatch;
 use tlb::Entry;
 use tlb::TlbFault;
 
@@ -16,6 +18,7 @@ pub enum Answer {
     Place(Place),
     Entry(u64, Entry),
     Access(Access),
+    Vector(Dispatch),
     State,
 }
 
@@ -47,5 +50,6 @@ pub fn play(op: Op, s: Session) -> Played {
         },
         Op::Register(op) => register_step::play(op, s),
         Op::Translation(op) => translation_step::play(op, s),
+        Op::Exception(op) => exception_step::play(op, s),
     }
 }

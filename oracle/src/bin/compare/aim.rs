@@ -58,6 +58,11 @@ pub fn value(rng: &mut Rng) -> u64 {
     }
 }
 
+/// Each bit alone, and each missing alone.
+pub fn bits() -> impl Iterator<Item = u64> {
+    (0..64).flat_map(|bit| [1 << bit, !(1 << bit)])
+}
+
 /// The ends of 8, 31, 32, 33, 63 and 64 bits.
 fn corner(rng: &mut Rng) -> u64 {
     let end = rng.pick(&[0, 1 << 8, 1 << 31, WORD, WORD << 1, 1 << 63, WORD.wrapping_neg()]);

@@ -1,5 +1,6 @@
 //! The run of a comparison: which traces are made, and how a program is given them.
 
+use std::collections::BTreeMap;
 use std::io::Write;
 use std::path::{Path, PathBuf};
 use std::process::{Command, Output, Stdio};
@@ -10,7 +11,7 @@ use oracle::play::play;
 use crate::judge::{judge, sections, Difference, Tally};
 use crate::options::{repository, Options};
 use crate::rng::Rng;
-use crate::{malformed, mixed, sweeps, translation};
+use crate::{exceptions, malformed, mixed, sweeps, translation};
 
 /// Traces that the program is given at a time.
 const BATCH: usize = 32;
@@ -23,35 +24,39 @@ const KEPT: &str = "target/compare";
 
 struct Trace {
     name: String,
+    kind: &'static str,
     text: Vec<u8>,
 }
 
 impl Trace {
-    /// The trace of a number. In a `ROUND` one is a sweep and one has a plain fault, until all of
+    /// The trace of a number. In a `ROUND` one is a sweep and two have a plain fault, until all of
     /// these are done.
     fn new(seed: u64, number: u64) -> Self {
         let mut rng = Rng::new(seed, number);
         let operations = 400 + rng.index(200);
-        let round = number / ROUND;
-        let once = match number % ROUND {
-            0 => sweeps::sweep(round),
-            1 => malformed::plain_fault(round),
+        let (round, place) = (number / ROUND, number % ROUND);
+        let once = match place {
+            0 => sweeps::sweep(round).map(|text| ("sweeps", text)),
+            1 | 2 => malformed::plain_fault(2 * round + place - 1).map(|text| ("faults", text)),
             _ => None,
         };
-        let text = once.unwrap_or_else(|| match number % ROUND {
-            1 | 2 => malformed::malformed(rng, round),
-            3 => mixed::cut_advances(rng, operations),
-            4 | 5 => mixed::session(rng, operations),
-            6..=9 => translation::wild(rng, operations),
-            _ => translation::tame(rng, operations),
+        let (kind, text) = once.unwrap_or_else(|| match place {
+            1..=3 => ("malformed", malformed::malformed(rng, round)),
+            4 => ("cut advances", mixed::cut_advances(rng, operations)),
+            5 | 6 => ("registers", mixed::session(rng, operations)),
+            7 | 8 => ("wild tables", translation::wild(rng, operations)),
+            9 | 10 => ("tame tables", translation::tame(rng, operations)),
+            _ => ("exceptions", exceptions::session(rng, operations)),
         });
-        Self { name: format!("{seed:x}-{number}.trace"), text }
+        Self { name: format!("{seed:x}-{number}.trace"), kind, text }
     }
 }
 
 pub struct Comparison {
     options: Options,
     tally: Tally,
+    /// How many operations were compared in the traces of each kind.
+    kinds: BTreeMap<&'static str, u64>,
     traces: u64,
     /// Traces that were given on standard input as well.
     inputs: usize,
@@ -62,7 +67,14 @@ pub struct Comparison {
 impl Comparison {
     pub fn new(options: Options) -> Self {
         let room = repository().join(KEPT).join(format!("batch-{}", process::id()));
-        Self { options, tally: Tally::default(), traces: 0, inputs: 0, room }
+        Self {
+            options,
+            tally: Tally::default(),
+            kinds: BTreeMap::new(),
+            traces: 0,
+            inputs: 0,
+            room,
+        }
     }
 
     /// Compares until enough operations are, or there is a difference to tell.
@@ -90,6 +102,11 @@ impl Comparison {
         println!("seed {:x}", self.options.seed);
         println!("{} traces, {} operations", self.traces, self.tally.total());
         println!("{} of the traces on standard input as well", self.inputs);
+        println!("operations in traces of each kind");
+        for (kind, number) in &self.kinds {
+            println!("  {kind:<30}{number:>9}");
+        }
+        println!("operations and faults, each with its kinds of answer");
         for (name, number) in self.tally.rows() {
             println!("  {name:<30}{number:>9}");
             for (kind, number) in self.tally.kinds(name) {
@@ -117,10 +134,12 @@ impl Comparison {
         let mut command = Command::new(&self.options.replay);
         let output = command.args(&names).current_dir(&self.room).output()?;
         for (trace, wrote) in batch.iter().zip(sections(&output.stdout, &names)) {
+            let before = self.tally.total();
             if let Some(difference) = judge(&trace.text, wrote, &mut self.tally) {
                 keep(trace, wrote)?;
                 return Ok(Some(tell(trace, &difference) + &ending(&output)));
             }
+            *self.kinds.entry(trace.kind).or_default() += self.tally.total() - before;
             self.traces += 1;
             fs::remove_file(self.room.join(&trace.name))?;
         }

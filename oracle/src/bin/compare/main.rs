@@ -4,6 +4,8 @@ mod addresses;
 mod aim;
 mod comparison;
 mod draft;
+mod exception_sweeps;
+mod exceptions;
 mod judge;
 mod malformed;
 mod mixed;

@@ -1,10 +1,11 @@
 //! Traces with something wrong in them, or something odd that must not count as wrong.
 
+use oracle::exceptions::{detail, EXCEPTIONS};
 use oracle::operations::{find, Operation, OPERATIONS};
 use oracle::parse::{Operand, LIMIT};
 
 use crate::rng::Rng;
-use crate::{aim, mixed, translation};
+use crate::{aim, exceptions, mixed, translation};
 
 type Kind = fn(&mut Rng) -> Vec<u8>;
 
@@ -34,9 +35,11 @@ const TEXTS: [Kind; 9] = [
     last_return,
 ];
 
-/// The plain faults of each operation, one to a trace, as long as there are any.
+/// The plain faults of each operation and of each exception, one to a trace, as long as there are
+/// any.
 pub fn plain_fault(number: u64) -> Option<Vec<u8>> {
-    OPERATIONS.iter().flat_map(plain_faults).nth(number as usize)
+    let exceptions = (0..EXCEPTIONS.len() as u64).flat_map(details_over);
+    OPERATIONS.iter().flat_map(plain_faults).chain(exceptions).nth(number as usize)
 }
 
 /// A trace of the kind of a number; the kinds come in turn.
@@ -55,12 +58,13 @@ pub fn malformed(mut rng: Rng, number: u64) -> Vec<u8> {
 /// of range in turn.
 fn plain_faults(operation: &Operation) -> Vec<Vec<u8>> {
     let name = operation.name.as_bytes();
-    let good = vec![b"0".to_vec(); operation.operands.len()];
+    let zeros = vec![0; operation.operands.len()];
+    let good = words(&zeros);
     let mut faults = vec![line(&name.to_ascii_uppercase(), &good)];
     faults.push(line(name, &[&good[..], &[b"0".to_vec()]].concat()));
     for (at, operand) in operation.operands.iter().enumerate() {
         faults.push(line(name, &good[..at]));
-        let over = u128::from(operand.greatest()) + 1;
+        let over = u128::from(operand.greatest(&zeros)) + 1;
         for word in ["g".into(), "0".repeat(17), format!("{over:x}")] {
             let mut operands = good.clone();
             operands[at] = word.into_bytes();
@@ -68,6 +72,15 @@ fn plain_faults(operation: &Operation) -> Vec<Vec<u8>> {
         }
     }
     faults
+}
+
+/// An exception with its operand A one over what it may be, and with B so.
+fn details_over(exception: u64) -> [Vec<u8>; 2] {
+    [0, 1].map(|place| {
+        let mut values = [exception, 0, 0, 0, 0, 0];
+        values[1 + place] = detail(exception, place).greatest(&values) + 1;
+        line(b"dispatch", &words(&values))
+    })
 }
 
 /// A good trace with a line put in somewhere.
@@ -83,7 +96,7 @@ fn insert(rng: &mut Rng, line: &[u8]) -> Vec<u8> {
 
 fn good(rng: &mut Rng) -> Vec<u8> {
     let operations = 1 + rng.index(40);
-    let session = rng.pick(&[mixed::session, translation::tame]);
+    let session = rng.pick(&[mixed::session, translation::tame, exceptions::session]);
     session(Rng::new(rng.next(), 0), operations)
 }
 
@@ -92,15 +105,22 @@ fn with_operands(rng: &mut Rng) -> (&'static Operation, Vec<Vec<u8>>) {
     let takes = OPERATIONS.iter().filter(|row| !row.operands.is_empty());
     let takes: Vec<&Operation> = takes.collect();
     let operation = rng.pick(&takes);
-    (operation, good_operands(rng, operation))
+    (operation, words(&good_operands(rng, operation)))
 }
 
-fn good_operands(rng: &mut Rng, operation: &Operation) -> Vec<Vec<u8>> {
-    let values = operation.operands.iter().map(|operand| match operand.greatest() {
-        u64::MAX => aim::value(rng),
-        greatest => rng.below(greatest + 1),
-    });
-    values.map(|value| format!("{value:x}").into_bytes()).collect()
+fn good_operands(rng: &mut Rng, operation: &Operation) -> Vec<u64> {
+    let mut values = Vec::new();
+    for operand in operation.operands {
+        values.push(match operand.greatest(&values) {
+            u64::MAX => aim::value(rng),
+            greatest => rng.below(greatest + 1),
+        });
+    }
+    values
+}
+
+fn words(operands: &[u64]) -> Vec<Vec<u8>> {
+    operands.iter().map(|value| format!("{value:x}").into_bytes()).collect()
 }
 
 fn line(name: &[u8], operands: &[Vec<u8>]) -> Vec<u8> {
@@ -120,7 +140,7 @@ fn misspelt(rng: &mut Rng) -> Vec<u8> {
         3 => name.insert(at, rng.pick(b"\0\xFF\xA0-#e")),
         _ => name[at] ^= 1 << rng.below(8),
     }
-    line(&name, &good_operands(rng, operation))
+    line(&name, &words(&good_operands(rng, operation)))
 }
 
 fn too_few_operands(rng: &mut Rng) -> Vec<u8> {
@@ -131,7 +151,7 @@ fn too_few_operands(rng: &mut Rng) -> Vec<u8> {
 
 fn too_many_operands(rng: &mut Rng) -> Vec<u8> {
     let operation = &OPERATIONS[rng.index(OPERATIONS.len())];
-    let mut operands = good_operands(rng, operation);
+    let mut operands = words(&good_operands(rng, operation));
     for _ in 0..=rng.below(3) {
         let more: &[u8] = rng.pick(&[b"0", b"1", b"zz", b"#", b"00000000000000000"]);
         operands.push(more.to_vec());
@@ -168,40 +188,39 @@ fn out_of_range(rng: &mut Rng) -> Vec<u8> {
     let operation = rng.pick(&bounded);
     let mut operands = good_operands(rng, operation);
     exceed(rng, operation, &mut operands);
-    line(operation.name.as_bytes(), &operands)
+    line(operation.name.as_bytes(), &words(&operands))
 }
 
 fn is_bounded(operand: &Operand) -> bool {
-    operand.greatest() < u64::MAX
+    *operand != Operand::Long
 }
 
 /// Takes a bounded operand over its bound.
-fn exceed(rng: &mut Rng, operation: &Operation, operands: &mut [Vec<u8>]) {
-    let bounds = operation.operands.iter().enumerate();
-    let bounds: Vec<(usize, u64)> = bounds
-        .filter(|(_, operand)| is_bounded(operand))
-        .map(|(at, operand)| (at, operand.greatest()))
-        .collect();
-    let (at, greatest) = rng.pick(&bounds);
+fn exceed(rng: &mut Rng, operation: &Operation, operands: &mut [u64]) {
+    let bounded = operation.operands.iter().enumerate();
+    let bounded: Vec<(usize, &Operand)> =
+        bounded.filter(|(_, operand)| is_bounded(operand)).collect();
+    let (at, operand) = rng.pick(&bounded);
+    let greatest = operand.greatest(operands);
     let over = rng.pick(&[1, 1, 1, 2, greatest + 1, 1 << 32, u64::MAX - greatest]);
-    operands[at] = format!("{:x}", greatest + over).into_bytes();
+    operands[at] = greatest + over;
 }
 
-/// Two faults in one line: the first kind in the order of checks is the one to report.
+/// Several faults in one line: the first kind in the order of checks is the one to report.
 fn several_faults(rng: &mut Rng) -> Vec<u8> {
-    let name = rng.pick(&["set_ip", "translate_via"]);
+    let name = rng.pick(&["set_ip", "translate_via", "dispatch"]);
     let operation = find(name.as_bytes()).expect("an operation with two bounds");
-    let mut operands = good_operands(rng, operation);
-    exceed(rng, operation, &mut operands);
+    let mut values = good_operands(rng, operation);
+    exceed(rng, operation, &mut values);
+    exceed(rng, operation, &mut values);
+    let mut operands = words(&values);
     if rng.flag() {
         spoil(rng, &mut operands);
-    } else {
-        exceed(rng, operation, &mut operands);
     }
     if rng.one_in(3) {
         operands.push(b"0".to_vec());
     }
-    let name = if rng.one_in(4) { name.replace('_', "-") } else { name.into() };
+    let name = if rng.one_in(4) { name.to_uppercase() } else { name.into() };
     line(name.as_bytes(), &operands)
 }
 

@@ -4,9 +4,10 @@ use original::cop0::reg;
 
 use crate::draft::{Draft, Dress};
 use crate::rng::Rng;
-use crate::{addresses, aim};
+use crate::{addresses, aim, exception_sweeps, exceptions};
 
-const SINGLE: [fn(&mut Draft); 8] = [
+/// Those of one trace.
+const SINGLE: [fn(&mut Draft); 14] = [
     every_number,
     every_interrupt,
     every_edge,
@@ -15,41 +16,57 @@ const SINGLE: [fn(&mut Draft); 8] = [
     every_field,
     every_half,
     every_compared_bit,
+    exception_sweeps::every_vector,
+    exception_sweeps::every_cause_bit,
+    exception_sweeps::every_address_bit,
+    exception_sweeps::every_nesting,
+    exception_sweeps::every_nmi,
+    exception_sweeps::every_return,
 ];
-const WIRED_VALUES: u64 = 64;
-const REGISTERS: u64 = 32;
-/// The upper six bits of a page mask; a sweep goes through the lower six.
-const UPPER_MASKS: u64 = 64;
+
+/// How many traces a sweep has, and what makes the trace of a number.
+type Several = (u64, fn(&mut Draft, u64));
+
+/// Those of several traces.
+fn several() -> [Several; 4] {
+    const WIRED_VALUES: u64 = 64;
+    const REGISTERS: u64 = 32;
+    // The upper six bits of a page mask; a trace goes through the lower six.
+    const UPPER_MASKS: u64 = 64;
+    let exceptions = exceptions::all().len() as u64;
+    [
+        (WIRED_VALUES, every_walk),
+        (REGISTERS, every_bit),
+        (UPPER_MASKS, every_mask),
+        (exceptions, exception_sweeps::every_taking),
+    ]
+}
 
 /// The sweep of a number, as long as there are any.
 pub fn sweep(number: u64) -> Option<Vec<u8>> {
     let mut draft = Draft::new(Rng::new(0, number), Dress::Plain);
-    let walks = SINGLE.len() as u64;
-    let bits = walks + WIRED_VALUES;
-    let masks = bits + REGISTERS;
-    if number < walks {
-        SINGLE[number as usize](&mut draft);
-    } else if number < bits {
-        every_walk(&mut draft, number - walks);
-    } else if number < masks {
-        every_bit(&mut draft, number - bits);
-    } else if number < masks + UPPER_MASKS {
-        every_mask(&mut draft, number - masks);
-    } else {
-        return None;
+    if let Some(sweep) = SINGLE.get(number as usize) {
+        sweep(&mut draft);
+        return Some(draft.finish());
     }
-    Some(draft.finish())
+    let mut left = number - SINGLE.len() as u64;
+    for (traces, sweep) in several() {
+        if left < traces {
+            sweep(&mut draft, left);
+            return Some(draft.finish());
+        }
+        left -= traces;
+    }
+    None
 }
 
 /// Each bit of a register alone and each missing alone, by each way of writing.
 fn every_bit(draft: &mut Draft, register: u64) {
-    for bit in 0..64 {
-        for value in [1 << bit, !(1 << bit)] {
-            for name in ["mtc0", "dmtc0", "write", "set_hardware"] {
-                draft.put(name, &[register, value]);
-                draft.put("mfc0", &[register]);
-                draft.put("dmfc0", &[register]);
-            }
+    for value in aim::bits() {
+        for name in ["mtc0", "dmtc0", "write", "set_hardware"] {
+            draft.put(name, &[register, value]);
+            draft.put("mfc0", &[register]);
+            draft.put("dmfc0", &[register]);
         }
     }
 }
@@ -126,8 +143,7 @@ fn every_segment(draft: &mut Draft) {
 
 /// Each mode, width and level of Status, and each of its bits.
 fn every_access(draft: &mut Draft) {
-    let bits = (0..64).flat_map(|bit| [1 << bit, !(1 << bit)]);
-    for status in (0..256).chain(bits) {
+    for status in (0..256).chain(aim::bits()) {
         draft.put("set_hardware", &[reg::STATUS.into(), status]);
         draft.put("access", &[]);
     }
@@ -138,15 +154,13 @@ fn every_access(draft: &mut Draft) {
 fn every_field(draft: &mut Draft) {
     let mut number = 0;
     for register in [reg::ENTRY_HI, reg::PAGE_MASK, reg::ENTRY_LO0, reg::ENTRY_LO1] {
-        for bit in 0..64 {
-            for value in [1 << bit, !(1 << bit)] {
-                number += 1;
-                draft.put("dmtc0", &[register.into(), value]);
-                draft.put("write_entry", &[number]);
-                draft.put("entry", &[number % 32]);
-                draft.put("read_entry", &[number]);
-                draft.put("dmfc0", &[register.into()]);
-            }
+        for value in aim::bits() {
+            number += 1;
+            draft.put("dmtc0", &[register.into(), value]);
+            draft.put("write_entry", &[number]);
+            draft.put("entry", &[number % 32]);
+            draft.put("read_entry", &[number]);
+            draft.put("dmfc0", &[register.into()]);
         }
     }
 }

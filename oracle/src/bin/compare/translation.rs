@@ -52,7 +52,9 @@ pub fn wild(rng: Rng, operations: usize) -> Vec<u8> {
     session(rng, operations, &WILD, write_anywhere)
 }
 
-fn session(mut rng: Rng, operations: usize, moves: &[(u64, Move)], write: Move) -> Vec<u8> {
+/// A session of some moves, on a table that `write` fills; a table that is shut down is soon left
+/// for a fresh one.
+pub fn session(mut rng: Rng, operations: usize, moves: &[(u64, Move)], write: Move) -> Vec<u8> {
     let dress = if rng.one_in(4) { Dress::Fancy } else { Dress::Plain };
     let mut draft = Draft::new(rng, dress);
     fill(&mut draft, write);
@@ -75,7 +77,7 @@ fn fill(draft: &mut Draft, write: Move) {
 }
 
 /// Writes where the entry overlaps no other, if there is such a place.
-fn write_apart(draft: &mut Draft) {
+pub fn write_apart(draft: &mut Draft) {
     registers(draft);
     let free = addresses::entry_number(&mut draft.rng);
     match overlapped(draft)[..] {
@@ -191,7 +193,7 @@ pub fn page_mask(rng: &mut Rng) -> u64 {
 }
 
 /// A half that is valid and dirty more often than not, and uncached often.
-fn entry_lo(rng: &mut Rng, global: u64) -> u64 {
+pub fn entry_lo(rng: &mut Rng, global: u64) -> u64 {
     let any = rng.next();
     let frame = rng.pick(&[0, 0xF_FFFF, any, any, any >> 44]) << 6;
     let cache = rng.pick(&[2, 2, 3, any & 7]) << 3;
@@ -200,14 +202,14 @@ fn entry_lo(rng: &mut Rng, global: u64) -> u64 {
     frame & !0x3F | cache | dirty | valid | global
 }
 
-fn lookup(draft: &mut Draft) {
+pub fn lookup(draft: &mut Draft) {
     let (vaddr, asid) = address_and_asid(draft);
     let store = draft.rng.below(2);
     draft.put("lookup", &[vaddr, asid, store]);
 }
 
 /// An address at an entry and, most often, an ASID that the entry matches.
-fn address_and_asid(draft: &mut Draft) -> (u64, u64) {
+pub fn address_and_asid(draft: &mut Draft) -> (u64, u64) {
     let entry = a_written_entry(draft);
     let rng = &mut draft.rng;
     (addresses::of_entry(rng, &entry), addresses::asid(rng, &entry))
@@ -275,7 +277,7 @@ fn micro(draft: &mut Draft) {
 }
 
 /// EntryHi at an entry or near it, then the probe, then what it put into Index.
-fn probe(draft: &mut Draft) {
+pub fn probe(draft: &mut Draft) {
     let (vaddr, asid) = address_and_asid(draft);
     let hi = vaddr & !0xFF | asid;
     draft.put("dmtc0", &[reg::ENTRY_HI.into(), hi]);
