@@ -1,0 +1,3 @@
+pub mod TagLaws
+pub mod ByteLaws
+pub mod PartLaws

@@ -1,0 +1,16 @@
+-- `parts::are_sized` tests both lengths.
+use borrow.Author.Tests.{eq-eqb, ne-eqb}
+use Rattle.cache.specs.Both.{sized}
+use Rattle.cache.proofs.parts.are_sized.Statement.{statement}
+use Rattle.cache.proofs.parts.are_sized.Tie as tie
+
+returns : tie.Need-returns
+unfolding sized
+returns c = rw (ne-eqb _ _ (c .if1 .taken))
+
+returns-2 : tie.Need-returns-2
+unfolding sized
+returns-2 c = rw (eq-eqb _ _ (c .if1 .left))
+
+pub are-sized-spec : {M : Type 1} → statement M
+are-sized-spec = tie.close (tie.spec returns returns-2)

@@ -1,0 +1,239 @@
+// The data cache: 8 KiB in 512 lines of 16 bytes, written back.
+ghost use mathlib.Core.Path.{_≡_};
+ghost use mathlib.Core.Bool.{Bool};
+ghost use Prim.Native.Nat.{_+_, _*_, _%_, _≤_};
+ghost use lib.ListN.{length, replicate};
+ghost use Rattle.cache.specs.Answers.{toldDone, toldAsked, toldValue, toldPlan, toldWriteback};
+ghost use Rattle.cache.specs.Both.{hitsTold, loadTold, residentTold, tagsTold, storeTags, bothTold, freshPart, installBytes, installTags};
+ghost use Rattle.cache.specs.Data.{evictedIf, bytesIf, planTold, planBytes, accessRefusal, readTold, writeTold, writeBytes, writeTags, flushTold, flushBytes, flushTags, displacedOf, createTold, createBytes, createTags};
+use crate::answers::Asked;
+use crate::answers::DataWriteback;
+use crate::answers::Done;
+use crate::answers::MissPlan;
+use crate::answers::PlanAnswer;
+use crate::answers::Value;
+use crate::answers::WritebackAnswer;
+use crate::bytes;
+use crate::parts;
+use crate::tag_array;
+use crate::tag_word;
+
+// All its bytes.
+const BYTES: usize = 8192;
+
+// PState of a valid line.
+const VALID_STATE: u32 = 3;
+
+// A cache with every line invalid: what is lent is zeroed.
+pub fn new(lines: &mut [u8], tags: &mut [u32]) -> Done
+    ensures { λ r. ⌜ (toldDone r ≡ bothTold 8192 (now (lines .entry)) (now (tags .entry)))
+        × (now (lines .exit) ≡ freshPart 8192 (now (lines .entry)) (now (tags .entry)) (now (lines .entry)))
+        × (now (tags .exit) ≡ freshPart 8192 (now (lines .entry)) (now (tags .entry)) (now (tags .entry))) ⌝ }
+{
+    parts::fresh(lines, tags, BYTES)
+}
+
+// Does the address hit a valid line?
+pub fn hits(tags: &[u32], addr: u32) -> Asked
+    ensures { λ r. ⌜ toldAsked r ≡ hitsTold 16 (now (tags .entry)) addr ⌝ }
+{
+    tag_array::hits(tags, addr, 16)
+}
+
+// What must be done before the line of an address can be accessed. A dirty line goes to the address that it came from, and not
+// to the one that displaces it.
+pub fn miss_plan(lines: &[u8], tags: &[u32], addr: u32) -> MissPlan
+    ensures { λ r. ⌜ (toldPlan (r .answer) ≡ planTold (now (lines .entry)) (now (tags .entry)) addr)
+        × (r .«data» ≡ planBytes (now (lines .entry)) (now (tags .entry)) addr) ⌝ }
+{
+    if parts::are_sized(lines, tags, BYTES) {
+        let i = tag_array::index(addr, 16);
+        let word = tags[i];
+        if tag_word::is_hit(word, addr) {
+            return plan(PlanAnswer::Hit);
+        }
+        if tag_word::leaves(word) {
+            return MissPlan {
+                answer: PlanAnswer::Evict(tag_word::resident(word, i * 16)),
+                data: bytes::line16(lines, i * 16),
+            };
+        }
+        return plan(PlanAnswer::Fill);
+    }
+    plan(PlanAnswer::Refused(1))
+}
+
+// Puts a line that was read from memory into its place.
+pub fn install(lines: &mut [u8], tags: &mut [u32], addr: u32, line: [u8; 16]) -> Done
+    ensures { λ r. ⌜ (toldDone r ≡ bothTold 8192 (now (lines .entry)) (now (tags .entry)))
+        × (now (lines .exit) ≡ installBytes 16 8192 (now (lines .entry)) (now (tags .entry)) addr line)
+        × (now (tags .exit) ≡ installTags 16 8192 (now (lines .entry)) (now (tags .entry)) addr) ⌝ }
+{
+    if parts::are_sized(lines, tags, BYTES) {
+        let i = tag_array::index(addr, 16);
+        bytes::copy(lines, i * 16, &line);
+        tags[i] = tag_word::word(tag_word::tag_of(addr), true, false);
+        return Done::Done;
+    }
+    Done::Refused(1)
+}
+
+// `len` bytes at an address, the highest first. The caller has made the line resident: no hit is tested.
+pub fn read(lines: &[u8], addr: u32, len: usize) -> Value
+    ensures { λ r. ⌜ toldValue r ≡ readTold (now (lines .entry)) addr len ⌝ }
+{
+    if lines.len() != BYTES {
+        return Value::Refused(1);
+    }
+    let refusal = access_refusal(addr, len);
+    if refusal != 0 {
+        return Value::Refused(refusal);
+    }
+    let at = tag_array::index(addr, 16) * 16 + (addr % 16) as usize;
+    Value::Of(bytes::big_endian(&lines[at..at + len]))
+}
+
+// The low `len` bytes of a value go to an address, and the line is dirty then, valid or not.
+pub fn write(lines: &mut [u8], tags: &mut [u32], addr: u32, len: usize, value: u64) -> Done
+    ensures { λ r. ⌜ (toldDone r ≡ writeTold (now (lines .entry)) (now (tags .entry)) addr len)
+        × (now (lines .exit) ≡ writeBytes (now (lines .entry)) (now (tags .entry)) addr len value)
+        × (now (tags .exit) ≡ writeTags (now (lines .entry)) (now (tags .entry)) addr len) ⌝ }
+{
+    if parts::are_sized(lines, tags, BYTES) {
+        let refusal = access_refusal(addr, len);
+        if refusal != 0 {
+            return Done::Refused(refusal);
+        }
+        let i = tag_array::index(addr, 16);
+        bytes::put_big_endian(lines, i * 16 + (addr % 16) as usize, len, value);
+        let old = tags[i];
+        tags[i] = tag_word::word(tag_word::tag(old), tag_word::valid(old), true);
+        return Done::Done;
+    }
+    Done::Refused(1)
+}
+
+// `Index_Load_Tag`, in TagLo's form.
+pub fn load_tag(tags: &[u32], addr: u32) -> Value
+    ensures { λ r. ⌜ toldValue r ≡ loadTold 16 3 (now (tags .entry)) addr ⌝ }
+{
+    tag_array::load_tag(tags, addr, 16, VALID_STATE)
+}
+
+// `Index_Store_Tag`: the line is clean then.
+pub fn store_tag(tags: &mut [u32], addr: u32, tag_lo: u32) -> Done
+    ensures { λ r. ⌜ (toldDone r ≡ tagsTold (now (tags .entry))) × (now (tags .exit) ≡ storeTags 16 3 (now (tags .entry)) addr «tag_lo») ⌝ }
+{
+    tag_array::store_tag(tags, addr, tag_lo, 16, VALID_STATE)
+}
+
+// Takes the line for write-back, if it is dirty. `clean` clears the dirty flag and leaves the line resident; `invalidate` clears
+// both flags.
+pub fn flush_index(
+    lines: &[u8],
+    tags: &mut [u32],
+    addr: u32,
+    invalidate: bool,
+    clean: bool,
+) -> DataWriteback
+    ensures { λ r. ⌜ (toldWriteback (r .answer) ≡ flushTold (now (lines .entry)) (now (tags .entry)) addr)
+        × (r .«data» ≡ flushBytes (now (lines .entry)) (now (tags .entry)) addr)
+        × (now (tags .exit) ≡ flushTags (now (lines .entry)) (now (tags .entry)) addr invalidate clean) ⌝ }
+{
+    if parts::are_sized(lines, tags, BYTES) {
+        let i = tag_array::index(addr, 16);
+        let old = tags[i];
+        let out = writeback(lines, old, i * 16, tag_word::leaves(old));
+        if invalidate {
+            tags[i] = tag_word::invalid(old);
+            return out;
+        }
+        if clean {
+            tags[i] = tag_word::word(tag_word::tag(old), tag_word::valid(old), false);
+        }
+        return out;
+    }
+    no_writeback(WritebackAnswer::Refused(1))
+}
+
+// `Create_Dirty_Exclusive`: claims the line without filling it, for a caller that is about to write all of it. The bytes that
+// it had stay; what it displaces is told.
+pub fn create_dirty_exclusive(lines: &[u8], tags: &mut [u32], addr: u32) -> DataWriteback
+    ensures { λ r. ⌜ (toldWriteback (r .answer) ≡ createTold (now (lines .entry)) (now (tags .entry)) addr)
+        × (r .«data» ≡ createBytes (now (lines .entry)) (now (tags .entry)) addr)
+        × (now (tags .exit) ≡ createTags (now (lines .entry)) (now (tags .entry)) addr) ⌝ }
+{
+    if parts::are_sized(lines, tags, BYTES) {
+        let i = tag_array::index(addr, 16);
+        let old = tags[i];
+        let out = writeback(lines, old, i * 16, displaced(old, addr));
+        tags[i] = tag_word::word(tag_word::tag_of(addr), true, true);
+        return out;
+    }
+    no_writeback(WritebackAnswer::Refused(1))
+}
+
+// The address that line `index`, modulo 512, came from.
+pub fn resident_addr(tags: &[u32], index: usize) -> Value
+    ensures { λ r. ⌜ toldValue r ≡ residentTold (now (tags .entry)) (index % 512) (index % 512 * 16) ⌝ }
+{
+    let i = index % 512;
+    tag_array::resident_addr(tags, i, i * 16)
+}
+
+// The number of the refusal of an access, or 0. An access stays within its line.
+fn access_refusal(addr: u32, len: usize) -> u8
+    ensures { λ r. ⌜ r ≡ accessRefusal addr len ⌝ }
+{
+    if len < 1 {
+        return 2;
+    }
+    if 8 < len {
+        return 2;
+    }
+    if 16 < (addr % 16) as usize + len {
+        return 3;
+    }
+    0
+}
+
+// Does the line leave for another address?
+fn displaced(old: u32, addr: u32) -> bool
+    ensures { λ r. ⌜ r ≡ displacedOf old addr ⌝ }
+{
+    if tag_word::leaves(old) {
+        return tag_word::tag(old) != tag_word::tag_of(addr);
+    }
+    false
+}
+
+fn writeback(lines: &[u8], word: u32, start: usize, leaves: bool) -> DataWriteback
+    requires { ⌜ start + 16 ≤ length (now lines) ⌝ }
+    ensures { λ r. ⌜ (toldWriteback (r .answer) ≡ evictedIf leaves word start) × (r .«data» ≡ bytesIf leaves (now (lines .entry)) start) ⌝ }
+{
+    if leaves {
+        return DataWriteback {
+            answer: WritebackAnswer::Evict(tag_word::resident(word, start)),
+            data: bytes::line16(lines, start),
+        };
+    }
+    no_writeback(WritebackAnswer::None)
+}
+
+fn no_writeback(answer: WritebackAnswer) -> DataWriteback
+    ensures { λ r. ⌜ (r .answer ≡ answer) × (r .«data» ≡ replicate 16 0) ⌝ }
+{
+    DataWriteback {
+        answer,
+        data: [0; 16],
+    }
+}
+
+fn plan(answer: PlanAnswer) -> MissPlan
+    ensures { λ r. ⌜ (r .answer ≡ answer) × (r .«data» ≡ replicate 16 0) ⌝ }
+{
+    MissPlan {
+        answer,
+        data: [0; 16],
+    }
+}
