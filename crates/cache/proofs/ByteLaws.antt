@@ -69,7 +69,7 @@ pub tail-copied : (l s : List ℕ) (at len : ℕ) → length s ≡ 8 → len ≤
     → paste l at (take (8 - (8 - len)) (drop (8 - len) s)) (length (take (8 - (8 - len)) (drop (8 - len) s))) ≡ paste l at (drop (8 - len) s) len
 tail-copied l s at len hs h =
     let all : take (8 - (8 - len)) (drop (8 - len) s) ≡ drop (8 - len) s =
-        take-all (8 - (8 - len)) (drop (8 - len) s) (omega (arith, length-drop (8 - len) s)) in
+    take-all (8 - (8 - len)) (drop (8 - len) s) (omega (arith, length-drop (8 - len) s)) in
     let long : length (drop (8 - len) s) ≡ len = omega (arith, length-drop (8 - len) s) in
     rw (all, long)
 

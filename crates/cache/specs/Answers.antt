@@ -13,8 +13,12 @@ use Rattle.cache.specs.declared.answers.PlanAnswer.the-variants as plan
 use Rattle.cache.specs.declared.answers.WritebackAnswer.{WritebackAnswer}
 use Rattle.cache.specs.declared.answers.WritebackAnswer.the-variants as writeback
 
+-- nothing to say is 0, which no refusal has among its values
+abbrev pub nothing : Told
+nothing = answered (0 ∷ [])
+
 abbrev pub toldDone : Done → Told
-toldDone done.Done = answered []
+toldDone done.Done = nothing
 toldDone (done.Refused n) = refused n
 
 abbrev pub toldAsked : Asked → Told
@@ -32,8 +36,8 @@ toldPlan plan.Fill = answered (1 ∷ [])
 toldPlan (plan.Evict a) = answered (2 ∷ a ∷ [])
 toldPlan (plan.Refused n) = refused n
 
--- the address of the line that is evicted, if one is
+-- an eviction is 1 with its address
 abbrev pub toldWriteback : WritebackAnswer → Told
-toldWriteback writeback.None = answered []
-toldWriteback (writeback.Evict a) = answered (a ∷ [])
+toldWriteback writeback.None = nothing
+toldWriteback (writeback.Evict a) = answered (1 ∷ a ∷ [])
 toldWriteback (writeback.Refused n) = refused n

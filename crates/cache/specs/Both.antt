@@ -8,7 +8,8 @@ use lib.ListN.{length, set, replicate}
 use lib.Seq.{paste}
 use Rattle.bits.specs.Field.{bit}
 use Rattle.bits.specs.Told.{Told, answered, refused}
-use Rattle.cache.specs.Tags.{tagOf, wordTag, wordOf, hitOf, tagLoOf, storedOf}
+use Rattle.cache.specs.Answers.{nothing}
+use Rattle.cache.specs.Tags.{tagOf, wordOf, hitOf, tagLoOf, storedOf}
 use Rattle.cache.specs.Lines.{indexOf, startOf, wordAt, residentOf}
 
 -- the tag array has 512 words
@@ -30,7 +31,7 @@ residentTold ws i start = cond (tagged ws) (answered (residentOf (wordAt ws i) s
 
 -- an operation on tags alone
 unfoldable pub tagsTold : List ℕ → Told
-tagsTold ws = cond (tagged ws) (answered []) (refused 1)
+tagsTold ws = cond (tagged ws) nothing (refused 1)
 
 -- the line's word replaced, and all others as they were
 abbrev pub tagsWith : ℕ → List ℕ → ℕ → ℕ → List ℕ
@@ -45,7 +46,7 @@ sized bytes ls ws = eqb (length ls) bytes && eqb (length ws) 512
 
 -- an operation on both
 unfoldable pub bothTold : ℕ → List ℕ → List ℕ → Told
-bothTold bytes ls ws = cond (sized bytes ls ws) (answered []) (refused 1)
+bothTold bytes ls ws = cond (sized bytes ls ws) nothing (refused 1)
 
 -- fresh: all zero
 unfoldable pub freshPart : ℕ → List ℕ → List ℕ → List ℕ → List ℕ

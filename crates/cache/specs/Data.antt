@@ -6,6 +6,7 @@ use lib.Dec.{eqb, leb}
 use lib.ListN.{length, take, drop, replicate}
 use lib.Seq.{paste}
 use Rattle.bits.specs.Told.{Told, answered, refused}
+use Rattle.cache.specs.Answers.{nothing}
 use Rattle.cache.specs.Tags.{tagOf, wordTag, isValid, wordOf, hitOf, leavesOf, invalidated}
 use Rattle.cache.specs.Lines.{startOf, placeOf, residentOf}
 use Rattle.cache.specs.Bytes.{bigEndian, bytesOf}
@@ -19,7 +20,7 @@ word ws a = wordFor 16 ws a
 
 -- the address that a line with this word and start is written back to, if it leaves
 abbrev pub evictedIf : Bool → ℕ → ℕ → Told
-evictedIf b w start = cond b (answered (residentOf w start ∷ [])) (answered [])
+evictedIf b w start = cond b (answered (1 ∷ residentOf w start ∷ [])) nothing
 
 -- and its bytes; zeros where there is none
 abbrev pub bytesIf : Bool → List ℕ → ℕ → List ℕ
@@ -53,7 +54,7 @@ readTold ls a len =
     accessed (eqb (length ls) 8192) (accessRefusal a len) (answered (bigEndian (take len (drop (placeOf 16 a) ls)) ∷ []))
 
 unfoldable pub writeTold : List ℕ → List ℕ → ℕ → ℕ → Told
-writeTold ls ws a len = accessed (fits ls ws) (accessRefusal a len) (answered [])
+writeTold ls ws a len = accessed (fits ls ws) (accessRefusal a len) nothing
 
 -- a write is not refused
 abbrev pub writes : List ℕ → List ℕ → ℕ → ℕ → Bool

@@ -5,6 +5,7 @@ use Prim.Native.Nat.{ℕ, _%_}
 use lib.Dec.{eqb, leb}
 use lib.ListN.{length, take, drop, replicate}
 use Rattle.bits.specs.Told.{Told, answered, refused}
+use Rattle.cache.specs.Answers.{nothing}
 use Rattle.cache.specs.Tags.{hitOf, invalidated}
 use Rattle.cache.specs.Lines.{startOf, placeOf, residentOf}
 use Rattle.cache.specs.Bytes.{bigEndian}
@@ -33,7 +34,7 @@ hitInvalidateTags ws a = cond (tagged ws) (cond (hitOf (word ws a) a) (tagsWith 
 -- a line that holds the address goes to memory, and stays
 unfoldable pub flushTold : List ℕ → List ℕ → ℕ → Told
 flushTold ls ws a =
-    cond (fits ls ws) (cond (hitOf (word ws a) a) (answered (residentOf (word ws a) (startOf 32 a) ∷ [])) (answered [])) (refused 1)
+    cond (fits ls ws) (cond (hitOf (word ws a) a) (answered (1 ∷ residentOf (word ws a) (startOf 32 a) ∷ [])) nothing) (refused 1)
 
 unfoldable pub flushBytes : List ℕ → List ℕ → ℕ → List ℕ
 flushBytes ls ws a = cond (fits ls ws && hitOf (word ws a) a) (take 32 (drop (startOf 32 a) ls)) (replicate 32 0)

@@ -17,12 +17,15 @@ use Rattle.tlb.specs.Entries.{pageSizeOf}
 use Rattle.tlb.specs.Moves.{pairs}
 use Rattle.exception.specs.Epilogue.{recorded, addressed, handling}
 use Rattle.exception.specs.Taking.{takenOf, dispatchOf}
+use Rattle.cache.specs.Tags.{tagLoOf, storedOf}
+use Rattle.cache.specs.Both.{loadTold, residentTold, storeTags}
 use Rattle.numbers.specs.Table.{all}
 use Rattle.numbers.specs.RegisterFile.{registerFile}
 use Rattle.numbers.specs.Translation.{translation}
 use Rattle.numbers.specs.Segments.{segments}
 use Rattle.numbers.specs.Exceptions.{exceptions}
+use Rattle.numbers.specs.Caches.{caches}
 
-pub right : all (registerFile ++ translation ++ segments ++ exceptions) ≡ true
-unfolding recorded addressed handling takenOf dispatchOf unused archMask readAt setHardwareOf segmentOf inside pageSizeOf pairs withFieldOf mergedBits among wide writeMask fresh setIpOf edgeOf asked randomStep randomSteps tickRandomByOf besides writeAt moved32 dmtc0Of moved advanceTold advanceOf
+pub right : all (registerFile ++ translation ++ segments ++ exceptions ++ caches) ≡ true
+unfolding tagLoOf storedOf loadTold residentTold storeTags recorded addressed handling takenOf dispatchOf unused archMask readAt setHardwareOf segmentOf inside pageSizeOf pairs withFieldOf mergedBits among wide writeMask fresh setIpOf edgeOf asked randomStep randomSteps tickRandomByOf besides writeAt moved32 dmtc0Of moved advanceTold advanceOf
 right = refl

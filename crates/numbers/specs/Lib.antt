@@ -3,3 +3,4 @@ pub mod RegisterFile
 pub mod Translation
 pub mod Segments
 pub mod Exceptions
+pub mod Caches

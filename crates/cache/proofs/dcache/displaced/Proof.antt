@@ -1,5 +1,4 @@
 -- `dcache::displaced` tests whether the line leaves first.
-use borrow.Author.Tests.{eq-eqb, ne-eqb}
 use borrow.Author.Needs.{needs}
 use Rattle.cache.specs.Data.{displacedOf}
 use Rattle.cache.proofs.dcache.displaced.Statement.{statement}

@@ -1,0 +1,108 @@
+-- What the caches hold after an operation: what was installed is there and hits, a write changes exactly its bytes, and a stored tag
+-- loads back. Reads do not ask for a hit: their definitions, and their functions, take no tags.
+use mathlib.Core.Path.{_≡_, refl, ap, _∙_}
+use mathlib.Core.Bool.{true, false, cond}
+use mathlib.Core.List.{List, [], _∷_, _++_, append-assoc}
+use Prim.Native.Nat.{ℕ, _+_, _-_, _*_, _^_, _<_, _≤_}
+use native.Mathlib.Omega.{arith}
+use lib.Dec.{eqb}
+use lib.ListN.{length, take, drop, length-set, length-drop}
+use lib.Seq.{length-take-le, paste, take-all, take-at, drop-at, drop-paste, getD-set-same}
+use borrow.Author.Tests.{eq-eqb, eqb-true}
+use Rattle.bits.specs.Field.{fieldOf}
+use Rattle.bits.specs.Told.{answered}
+use Rattle.cache.specs.Tags.{tagOf, wordOf, storedOf}
+use Rattle.cache.specs.Lines.{indexOf, startOf, placeOf}
+use Rattle.cache.specs.Bytes.{eight, bytesOf}
+use Rattle.cache.specs.Both.{sized, hitsTold, loadTold, storeTags, installBytes, installTags}
+use Rattle.cache.specs.Data.{fits, accessRefusal, writes, writeBytes}
+use Rattle.cache.proofs.TagLaws.{hit-back, tag-lo-back}
+use Rattle.cache.proofs.PartLaws.{both, lengths, allowed}
+
+-- n elements copied to a place are there
+pub copied-back : (d s : List ℕ) (at n : ℕ) → at ≤ length d → length s ≡ n → take n (drop at (paste d at s n)) ≡ s
+copied-back d s at n h e =
+    ap (λ (l : List ℕ). take n (drop at l)) (append-assoc (take at d) (take n s) (drop (at + n) d))
+    ∙ ap (take n) (drop-at (take at d) (take n s ++ drop (at + n) d) at (length-take-le at d h))
+    ∙ take-at (take n s) (drop (at + n) d) n (length-take-le n s (omega arith))
+    ∙ take-all n s (omega arith)
+
+-- a line that is installed, over the size of a line: it hits, and holds the bytes
+module _ (size bytes : ℕ) (ls ws : List ℕ) (a : ℕ) (fit : sized bytes ls ws ≡ true) where
+  pub installed-hits : a < 2 ^ 32 → hitsTold size (installTags size bytes ls ws a) a ≡ answered (1 ∷ [])
+  unfolding hitsTold installTags
+  installed-hits h =
+      let w : ℕ = wordOf (tagOf a) true false in
+      let long : length ws ≡ 512 = lengths bytes ls ws refl fit .1 in
+      rw (
+        fit,
+        length-set ws (indexOf size a) w,
+        eq-eqb (length ws) 512 long,
+        getD-set-same ws (indexOf size a) w 0 (omega arith),
+        hit-back a false h,
+      )
+
+  pub installed-bytes : (line : List ℕ) → startOf size a ≤ bytes → length line ≡ size
+      → take size (drop (startOf size a) (installBytes size bytes ls ws a line)) ≡ line
+  unfolding installBytes
+  installed-bytes line inside e =
+      rw fit (copied-back ls line (startOf size a) size (omega (arith, lengths bytes ls ws refl fit .0)) e)
+
+-- in the data cache, and in the instruction cache
+pub data-installed : (ls ws : List ℕ) (a : ℕ) (line : List ℕ) → sized 8192 ls ws ≡ true → length line ≡ 16
+    → take 16 (drop (startOf 16 a) (installBytes 16 8192 ls ws a line)) ≡ line
+data-installed ls ws a line fit = installed-bytes 16 8192 ls ws a fit line (omega arith)
+
+pub instruction-installed : (ls ws : List ℕ) (a : ℕ) (line : List ℕ) → sized 16384 ls ws ≡ true → length line ≡ 32
+    → take 32 (drop (startOf 32 a) (installBytes 32 16384 ls ws a line)) ≡ line
+instruction-installed ls ws a line fit = installed-bytes 32 16384 ls ws a fit line (omega arith)
+
+-- a stored tag loads back, with the state of a valid line or 0
+pub stored-loads : (size state : ℕ) (ws : List ℕ) (a t : ℕ) → length ws ≡ 512
+    → loadTold size state (storeTags size state ws a t) a
+    ≡ answered ((fieldOf t 27 8 * 2 ^ 8 + cond (eqb (fieldOf t 7 6) state) state 0 * 2 ^ 6) ∷ [])
+unfolding loadTold storeTags
+stored-loads size state ws a t long =
+    rw (
+      eq-eqb (length ws) 512 long,
+      length-set ws (indexOf size a) (storedOf state t),
+      eq-eqb (length ws) 512 long,
+      getD-set-same ws (indexOf size a) (storedOf state t) 0 (omega arith),
+      tag-lo-back state t,
+    )
+
+-- a write of the data cache that is not refused
+module _ (ls ws : List ℕ) (a len v : ℕ) (made : writes ls ws a len ≡ true) where
+  abbrev after : List ℕ
+  after = writeBytes ls ws a len v
+
+  facts : (length ls ≡ 8192) × (len ≤ 8)
+  facts =
+      let p = both (fits ls ws) (eqb (accessRefusal a len) 0) made in
+      (lengths 8192 ls ws refl (p .0) .0, allowed a len (eqb-true (accessRefusal a len) 0 (p .1)) .0)
+
+  after-is : after ≡ paste ls (placeOf 16 a) (bytesOf len v) len
+  unfolding writeBytes
+  after-is = rw made
+
+  long : length (bytesOf len v) ≡ len
+  long = omega (arith, length-drop (8 - len) (eight v), facts .1)
+
+  -- the bytes are there
+  pub written-there : take len (drop (placeOf 16 a) after) ≡ bytesOf len v
+  written-there =
+      ap (λ (l : List ℕ). take len (drop (placeOf 16 a) l)) after-is
+      ∙ copied-back ls (bytesOf len v) (placeOf 16 a) len (omega (arith, facts .0)) long
+
+  -- and those before and after them stand
+  pub before-stands : take (placeOf 16 a) after ≡ take (placeOf 16 a) ls
+  before-stands =
+      ap (take (placeOf 16 a)) after-is
+      ∙ ap (take (placeOf 16 a)) (append-assoc (take (placeOf 16 a) ls) (take len (bytesOf len v)) (drop (placeOf 16 a + len) ls))
+      ∙ take-at (take (placeOf 16 a) ls) (take len (bytesOf len v) ++ drop (placeOf 16 a + len) ls) (placeOf 16 a)
+      (length-take-le (placeOf 16 a) ls (omega (arith, facts .0)))
+
+  pub rest-stands : drop (placeOf 16 a + len) after ≡ drop (placeOf 16 a + len) ls
+  rest-stands =
+      ap (drop (placeOf 16 a + len)) after-is
+      ∙ drop-paste ls (placeOf 16 a) (bytesOf len v) len (omega (arith, facts .0)) (omega (arith, long))
