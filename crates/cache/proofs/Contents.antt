@@ -1,13 +1,13 @@
 -- What the caches hold after an operation: what was installed is there and hits, a write changes exactly its bytes, and a stored tag
 -- loads back. Reads do not ask for a hit: their definitions, and their functions, take no tags.
 use mathlib.Core.Path.{_≡_, refl, ap, _∙_}
-use mathlib.Core.Bool.{true, false, cond}
+use mathlib.Core.Bool.{Bool, true, false, cond}
 use mathlib.Core.List.{List, [], _∷_, _++_, append-assoc}
 use Prim.Native.Nat.{ℕ, _+_, _-_, _*_, _^_, _<_, _≤_}
 use native.Mathlib.Omega.{arith}
 use lib.Dec.{eqb}
-use lib.ListN.{length, take, drop, length-set, length-drop}
-use lib.Seq.{length-take-le, paste, take-all, take-at, drop-at, drop-paste, getD-set-same}
+use lib.ListN.{length, getD, set, take, drop, length-set, length-drop}
+use lib.Seq.{length-take-le, paste, take-all, take-at, drop-at, drop-paste, getD-set-same, set-getD}
 use borrow.Author.Tests.{eq-eqb, eqb-true}
 use Rattle.bits.specs.Field.{fieldOf}
 use Rattle.bits.specs.Told.{answered}
@@ -15,7 +15,7 @@ use Rattle.cache.specs.Tags.{tagOf, wordOf, storedOf}
 use Rattle.cache.specs.Lines.{indexOf, startOf, placeOf}
 use Rattle.cache.specs.Bytes.{eight, bytesOf}
 use Rattle.cache.specs.Both.{sized, hitsTold, loadTold, storeTags, installBytes, installTags}
-use Rattle.cache.specs.Data.{fits, accessRefusal, writes, writeBytes}
+use Rattle.cache.specs.Data.{fits, accessRefusal, writes, writeBytes, flushTags}
 use Rattle.cache.proofs.TagLaws.{hit-back, tag-lo-back}
 use Rattle.cache.proofs.PartLaws.{both, lengths, allowed}
 
@@ -106,3 +106,12 @@ module _ (ls ws : List ℕ) (a len v : ℕ) (made : writes ls ws a len ≡ true)
   rest-stands =
       ap (drop (placeOf 16 a + len)) after-is
       ∙ drop-paste ls (placeOf 16 a) (bytesOf len v) len (omega (arith, facts .0)) (omega (arith, long))
+
+-- a flush with both flags off changes no word
+pub flush-none : (ls ws : List ℕ) (a : ℕ) → flushTags ls ws a false false ≡ ws
+unfolding flushTags
+flush-none ls ws a = go (fits ls ws)
+  where
+    go : (b : Bool) → cond b (set ws (indexOf 16 a) (getD ws (indexOf 16 a) 0)) ws ≡ ws
+    go true = set-getD ws (indexOf 16 a) 0
+    go false = refl

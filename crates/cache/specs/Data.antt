@@ -75,13 +75,12 @@ flushTold ls ws a = cond (fits ls ws) (evictedIf (leaves ws a) (word ws a) (star
 unfoldable pub flushBytes : List ℕ → List ℕ → ℕ → List ℕ
 flushBytes ls ws a = bytesIf (fits ls ws && leaves ws a) ls (startOf 16 a)
 
+abbrev pub flushedWord : ℕ → Bool → Bool → ℕ
+flushedWord w invalidate clean = cond invalidate (invalidated w) (cond clean (wordOf (wordTag w) (isValid w) false) w)
+
+-- a word that stands is stored as it was: with both flags off nothing changes
 unfoldable pub flushTags : List ℕ → List ℕ → ℕ → Bool → Bool → List ℕ
-flushTags ls ws a invalidate clean =
-    cond (fits ls ws)
-    (cond invalidate (tagsWith 16 ws a (invalidated (word ws a)))
-    (cond clean (tagsWith 16 ws a (wordOf (wordTag (word ws a)) (isValid (word ws a)) false))
-    ws))
-    ws
+flushTags ls ws a invalidate clean = cond (fits ls ws) (tagsWith 16 ws a (flushedWord (word ws a) invalidate clean)) ws
 
 -- a line that leaves for another address
 unfoldable pub displacedOf : ℕ → ℕ → Bool

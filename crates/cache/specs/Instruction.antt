@@ -31,10 +31,16 @@ invalidateTags ws a = cond (tagged ws) (tagsWith 32 ws a (invalidated (word ws a
 unfoldable pub hitInvalidateTags : List ℕ → ℕ → List ℕ
 hitInvalidateTags ws a = cond (tagged ws) (cond (hitOf (word ws a) a) (tagsWith 32 ws a (invalidated (word ws a))) ws) ws
 
--- a line that holds the address goes to memory, and stays
+-- the address and the bytes of a line that goes to memory; zeros where none does
+abbrev pub pushedIf : Bool → ℕ → ℕ → Told
+pushedIf b w start = cond b (answered (1 ∷ residentOf w start ∷ [])) nothing
+
+abbrev pub bytesIf : Bool → List ℕ → ℕ → List ℕ
+bytesIf b ls start = cond b (take 32 (drop start ls)) (replicate 32 0)
+
+-- a line that holds the address goes, and stays
 unfoldable pub flushTold : List ℕ → List ℕ → ℕ → Told
-flushTold ls ws a =
-    cond (fits ls ws) (cond (hitOf (word ws a) a) (answered (1 ∷ residentOf (word ws a) (startOf 32 a) ∷ [])) nothing) (refused 1)
+flushTold ls ws a = cond (fits ls ws) (pushedIf (hitOf (word ws a) a) (word ws a) (startOf 32 a)) (refused 1)
 
 unfoldable pub flushBytes : List ℕ → List ℕ → ℕ → List ℕ
-flushBytes ls ws a = cond (fits ls ws && hitOf (word ws a) a) (take 32 (drop (startOf 32 a) ls)) (replicate 32 0)
+flushBytes ls ws a = bytesIf (fits ls ws && hitOf (word ws a) a) ls (startOf 32 a)

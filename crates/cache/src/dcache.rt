@@ -5,7 +5,7 @@ ghost use Prim.Native.Nat.{_+_, _*_, _%_, _≤_};
 ghost use lib.ListN.{length, replicate};
 ghost use Rattle.cache.specs.Answers.{toldDone, toldAsked, toldValue, toldPlan, toldWriteback};
 ghost use Rattle.cache.specs.Both.{hitsTold, loadTold, residentTold, tagsTold, storeTags, bothTold, freshPart, installBytes, installTags};
-ghost use Rattle.cache.specs.Data.{evictedIf, bytesIf, planTold, planBytes, accessRefusal, readTold, writeTold, writeBytes, writeTags, flushTold, flushBytes, flushTags, displacedOf, createTold, createBytes, createTags};
+ghost use Rattle.cache.specs.Data.{evictedIf, bytesIf, planTold, planBytes, accessRefusal, readTold, writeTold, writeBytes, writeTags, flushTold, flushBytes, flushedWord, flushTags, displacedOf, createTold, createBytes, createTags};
 use crate::answers::Asked;
 use crate::answers::DataWriteback;
 use crate::answers::Done;
@@ -143,15 +143,8 @@ pub fn flush_index(
     if parts::are_sized(lines, tags, BYTES) {
         let i = tag_array::index(addr, 16);
         let old = tags[i];
-        let out = writeback(lines, old, i * 16, tag_word::leaves(old));
-        if invalidate {
-            tags[i] = tag_word::invalid(old);
-            return out;
-        }
-        if clean {
-            tags[i] = tag_word::word(tag_word::tag(old), tag_word::valid(old), false);
-        }
-        return out;
+        tags[i] = flushed(old, invalidate, clean);
+        return writeback(lines, old, i * 16, tag_word::leaves(old));
     }
     no_writeback(WritebackAnswer::Refused(1))
 }
@@ -166,9 +159,8 @@ pub fn create_dirty_exclusive(lines: &[u8], tags: &mut [u32], addr: u32) -> Data
     if parts::are_sized(lines, tags, BYTES) {
         let i = tag_array::index(addr, 16);
         let old = tags[i];
-        let out = writeback(lines, old, i * 16, displaced(old, addr));
         tags[i] = tag_word::word(tag_word::tag_of(addr), true, true);
-        return out;
+        return writeback(lines, old, i * 16, displaced(old, addr));
     }
     no_writeback(WritebackAnswer::Refused(1))
 }
@@ -195,6 +187,19 @@ fn access_refusal(addr: u32, len: usize) -> u8
         return 3;
     }
     0
+}
+
+// The word of a line that is flushed: as it was, where neither flag is asked for.
+fn flushed(old: u32, invalidate: bool, clean: bool) -> u32
+    ensures { λ r. ⌜ r ≡ flushedWord old invalidate clean ⌝ }
+{
+    if invalidate {
+        return tag_word::invalid(old);
+    }
+    if clean {
+        return tag_word::word(tag_word::tag(old), tag_word::valid(old), false);
+    }
+    old
 }
 
 // Does the line leave for another address?

@@ -1,10 +1,10 @@
 // The instruction cache: 16 KiB in 512 lines of 32 bytes, which the processor does not write.
 ghost use mathlib.Core.Path.{_≡_};
-ghost use Prim.Native.Nat.{_*_, _%_};
-ghost use lib.ListN.{replicate};
+ghost use Prim.Native.Nat.{_+_, _*_, _%_, _≤_};
+ghost use lib.ListN.{length, replicate};
 ghost use Rattle.cache.specs.Answers.{toldDone, toldAsked, toldValue, toldWriteback};
 ghost use Rattle.cache.specs.Both.{hitsTold, loadTold, residentTold, tagsTold, storeTags, bothTold, freshPart, installBytes, installTags};
-ghost use Rattle.cache.specs.Instruction.{wordTold, invalidateTags, hitInvalidateTags, flushTold, flushBytes};
+ghost use Rattle.cache.specs.Instruction.{pushedIf, bytesIf, wordTold, invalidateTags, hitInvalidateTags, flushTold, flushBytes};
 use crate::answers::Asked;
 use crate::answers::Done;
 use crate::answers::InstructionWriteback;
@@ -116,13 +116,7 @@ pub fn flush_hit(lines: &[u8], tags: &[u32], addr: u32) -> InstructionWriteback
     if parts::are_sized(lines, tags, BYTES) {
         let i = tag_array::index(addr, 32);
         let word = tags[i];
-        if tag_word::is_hit(word, addr) {
-            return InstructionWriteback {
-                answer: WritebackAnswer::Evict(tag_word::resident(word, i * 32)),
-                data: bytes::line32(lines, i * 32),
-            };
-        }
-        return no_writeback(WritebackAnswer::None);
+        return writeback(lines, word, i * 32, tag_word::is_hit(word, addr));
     }
     no_writeback(WritebackAnswer::Refused(1))
 }
@@ -133,6 +127,19 @@ pub fn resident_addr(tags: &[u32], index: usize) -> Value
 {
     let i = index % 512;
     tag_array::resident_addr(tags, i, i * 32)
+}
+
+fn writeback(lines: &[u8], word: u32, start: usize, goes: bool) -> InstructionWriteback
+    requires { ⌜ start + 32 ≤ length (now lines) ⌝ }
+    ensures { λ r. ⌜ (toldWriteback (r .answer) ≡ pushedIf goes word start) × (r .«data» ≡ bytesIf goes (now (lines .entry)) start) ⌝ }
+{
+    if goes {
+        return InstructionWriteback {
+            answer: WritebackAnswer::Evict(tag_word::resident(word, start)),
+            data: bytes::line32(lines, start),
+        };
+    }
+    no_writeback(WritebackAnswer::None)
 }
 
 fn no_writeback(answer: WritebackAnswer) -> InstructionWriteback

@@ -21,17 +21,6 @@ slice-read-old c =
     let s = c .before .before in
     omega (arith, (lengths 8192 _ _ (s .before .are-sized .ensures) (s .if1 .taken)) .1, c .before .index .ensures)
 
-mul-writeback : tie.Need-mul-writeback
-mul-writeback c = search needs
-
-displaced-requires : tie.Need-displaced-requires
-displaced-requires c κs = search needs
-
-writeback-requires : tie.Need-writeback-requires
-writeback-requires c κs =
-    let s = c .before .before .before in
-    omega (arith, (lengths 8192 _ _ (s .before .are-sized .ensures) (s .if1 .taken)) .0, c .before .before .index .ensures)
-
 tag-of-requires : tie.Need-tag-of-requires
 tag-of-requires c κs = search needs
 
@@ -43,8 +32,19 @@ mul-tags c = search needs
 
 slice-write-tags : tie.Need-slice-write-tags
 slice-write-tags c =
-    let s = c .before .before .before .before .before .before in
-    omega (arith, (lengths 8192 _ _ (s .before .are-sized .ensures) (s .if1 .taken)) .1, c .before .before .before .before .before .index .ensures)
+    let s = c .before .before .before .before in
+    omega (arith, (lengths 8192 _ _ (s .before .are-sized .ensures) (s .if1 .taken)) .1, c .before .before .before .index .ensures)
+
+mul-writeback : tie.Need-mul-writeback
+mul-writeback c = search needs
+
+displaced-requires : tie.Need-displaced-requires
+displaced-requires c κs = search needs
+
+writeback-requires : tie.Need-writeback-requires
+writeback-requires c κs =
+    let s = c .before .before .before .before .before in
+    omega (arith, (lengths 8192 _ _ (s .before .are-sized .ensures) (s .if1 .taken)) .0, c .before .before .before .before .index .ensures)
 
 same-length : tie.Need-same-length
 same-length c = search needs
@@ -57,11 +57,11 @@ returns c =
       ← s .before .are-sized .ensures,
       s .if1 .taken,
       ← c .before .before .before .before .before .index .ensures,
-      ← c .before .before .before .displaced .ensures,
-      c .word .ensures,
-      c .before .tag-of .ensures,
+      ← c .before .displaced .ensures,
+      c .before .before .word .ensures,
+      c .before .before .before .tag-of .ensures,
     )
-    (c .before .before .writeback .ensures .0, c .before .before .writeback .ensures .1, refl)
+    (c .writeback .ensures .0, c .writeback .ensures .1, refl)
 
 no-writeback-requires : tie.Need-no-writeback-requires
 no-writeback-requires c κs = search needs
@@ -88,13 +88,13 @@ create-dirty-exclusive-spec =
     index-requires
     mul-old
     slice-read-old
-    mul-writeback
-    displaced-requires
-    writeback-requires
     tag-of-requires
     word-requires
     mul-tags
     slice-write-tags
+    mul-writeback
+    displaced-requires
+    writeback-requires
     same-length
     returns
     no-writeback-requires

@@ -21,36 +21,28 @@ shared-slice-read-word c =
     let s = c .before .before in
     omega (arith, (lengths 16384 _ _ (s .before .are-sized .ensures) (s .if1 .taken)) .1, c .before .index .ensures)
 
+mul-writeback : tie.Need-mul-writeback
+mul-writeback c = search needs
+
 is-hit-requires : tie.Need-is-hit-requires
 is-hit-requires c κs = search needs
 
-mul-resident : tie.Need-mul-resident
-mul-resident c = search needs
-
-resident-requires : tie.Need-resident-requires
-resident-requires c κs = search needs
-
-mul-line32 : tie.Need-mul-line32
-mul-line32 c = search needs
-
-line32-requires : tie.Need-line32-requires
-line32-requires c κs =
-    let s = c .before .before .before .before .before in
-    omega (arith, (lengths 16384 _ _ (s .before .are-sized .ensures) (s .if1 .taken)) .0, c .before .before .before .before .index .ensures)
+writeback-requires : tie.Need-writeback-requires
+writeback-requires c κs =
+    let s = c .before .before .before in
+    omega (arith, (lengths 16384 _ _ (s .before .are-sized .ensures) (s .if1 .taken)) .0, c .before .before .index .ensures)
 
 returns : tie.Need-returns
 unfolding flushTold flushBytes
 returns c =
-    let s = c .before .before .before .before .before .before in
+    let s = c .before .before .before .before in
     rw (
       ← s .before .are-sized .ensures,
       s .if1 .taken,
-      ← c .before .before .before .before .before .index .ensures,
-      ← c .before .before .before .is-hit .ensures,
-      c .before .before .if2 .taken,
-      c .before .resident .ensures,
+      ← c .before .before .before .index .ensures,
+      ← c .before .is-hit .ensures,
     )
-    (refl, c .line32 .ensures)
+    (c .writeback .ensures .0, c .writeback .ensures .1)
 
 no-writeback-requires : tie.Need-no-writeback-requires
 no-writeback-requires c κs = search needs
@@ -58,27 +50,9 @@ no-writeback-requires c κs = search needs
 returns-2 : tie.Need-returns-2
 unfolding flushTold flushBytes
 returns-2 c =
-    let s = c .before .before .before .before .before in
     rw (
       c .no-writeback .ensures .0,
       c .no-writeback .ensures .1,
-      ← s .before .are-sized .ensures,
-      s .if1 .taken,
-      ← c .before .before .before .before .index .ensures,
-      ← c .before .before .is-hit .ensures,
-      c .before .if2 .left,
-    )
-    (refl, refl)
-
-no-writeback-requires-2 : tie.Need-no-writeback-requires-2
-no-writeback-requires-2 c κs = search needs
-
-returns-3 : tie.Need-returns-3
-unfolding flushTold flushBytes
-returns-3 c =
-    rw (
-      c .no-writeback2 .ensures .0,
-      c .no-writeback2 .ensures .1,
       ← c .before .before .are-sized .ensures,
       c .before .if1 .left,
     )
@@ -92,13 +66,9 @@ flush-hit-spec =
     index-requires
     mul-word
     shared-slice-read-word
+    mul-writeback
     is-hit-requires
-    mul-resident
-    resident-requires
-    mul-line32
-    line32-requires
+    writeback-requires
     returns
     no-writeback-requires
-    returns-2
-    no-writeback-requires-2
-    returns-3)
+    returns-2)
