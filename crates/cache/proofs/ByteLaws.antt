@@ -27,7 +27,11 @@ module _ (l : List ℕ) where
 
   pub clear-all : cleared (length l) ≡ replicate (length l) 0
   clear-all =
-      rw (zero-add (length l), drop-length l, take-all {A = ℕ} (length l) (replicate (length l) 0) (omega (arith, length-replicate {A = ℕ} (length l) 0)))
+      rw (
+        zero-add (length l),
+        drop-length l,
+        take-all {A = ℕ} (length l) (replicate (length l) 0) (omega (arith, length-replicate {A = ℕ} (length l) 0)),
+      )
       (append-nil (replicate (length l) 0))
 
 -- i bytes are below 256 to the i, so eight of them fit a word

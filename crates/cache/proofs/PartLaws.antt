@@ -44,7 +44,8 @@ module _ (a len : ℕ) where
   unfolding accessRefusal
   allowed e = go (leb 1 len) (leb len 8) (leb (a % 16 + len) 16) refl refl e
     where
-      go : (x y z : Bool) → leb len 8 ≡ y → leb (a % 16 + len) 16 ≡ z → _≡_ {A = ℕ} (cond (x && y) (cond z 0 3) 2) 0 → (len ≤ 8) × (a % 16 + len ≤ 16)
+      go : (x y z : Bool) → leb len 8 ≡ y → leb (a % 16 + len) 16 ≡ z
+          → _≡_ {A = ℕ} (cond (x && y) (cond z 0 3) 2) 0 → (len ≤ 8) × (a % 16 + len ≤ 16)
       go true true true p q e = (leb-true len 8 p, leb-true (a % 16 + len) 16 q)
       go true true false p q e = absurd (omega arith)
       go true false z p q e = absurd (omega arith)

@@ -121,7 +121,9 @@ module _ (c : Cop0) (file : length (c .regs) ≡ 32) (e : Exception) (pc : ℕ) 
     unfolding recorded readAt unused among
     first-cause =
         from-q
-        ∙ rw first (read-back Cause (λ f. refl) (omega arith) (setHardwareOf c EPC (epcOf pc slot)) (set-file c EPC _ 32 file) _ (bd-kept c e (bit slot)))
+        ∙ rw first
+        (read-back Cause (λ f. refl) (omega arith) (setHardwareOf c EPC (epcOf pc slot)) (set-file c EPC _ 32 file) _
+        (bd-kept c e (bit slot)))
 
     pub first-epc : pc < 2 ^ 64 → readOf r EPC ≡ epcOf pc slot
     unfolding recorded readAt unused among archMask

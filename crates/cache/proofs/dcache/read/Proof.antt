@@ -37,7 +37,8 @@ add-at c = search needs
 add-big-endian : tie.Need-add-big-endian
 add-big-endian c =
     let k = c .before in
-    let ok = allowed _ _ (sym (k .before .access-refusal .ensures) ∙ k .if2 .left) in omega (arith, ok .0, ok .1)
+    let ok = allowed _ _ (sym (k .before .access-refusal .ensures) ∙ k .if2 .left) in
+    omega (arith, ok .0, ok .1)
 
 sub-big-endian : tie.Need-sub-big-endian
 sub-big-endian c = search needs
@@ -48,12 +49,15 @@ part-big-endian-start c = search needs
 part-big-endian-end : tie.Need-part-big-endian-end
 part-big-endian-end c =
     let k = c .before in
-    let ok = allowed _ _ (sym (k .before .access-refusal .ensures) ∙ k .if2 .left) in omega (arith, ok .0, ok .1, c .index .ensures)
+    let ok = allowed _ _ (sym (k .before .access-refusal .ensures) ∙ k .if2 .left) in
+    omega (arith, ok .0, ok .1, c .index .ensures)
 
 big-endian-requires : tie.Need-big-endian-requires
 big-endian-requires c κs =
     let k = c .before .before in
-    let ok = allowed _ _ (sym (k .before .access-refusal .ensures) ∙ k .if2 .left) in omega (arith, ok .0, part-length (k .before .before .before .before .args .lines .now) (c .before .index .result * 16 + k .before .before .before .before .args .addr % 16) (k .before .before .before .before .args .len))
+    let a = k .before .before .before .before .args in
+    let ok = allowed _ _ (sym (k .before .access-refusal .ensures) ∙ k .if2 .left) in
+    omega (arith, ok .0, part-length (a .lines .now) (c .before .index .result * 16 + a .addr % 16) (a .len))
 
 returns-3 : tie.Need-returns-3
 unfolding readTold

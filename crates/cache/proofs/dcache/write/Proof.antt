@@ -48,7 +48,8 @@ put-big-endian-requires : tie.Need-put-big-endian-requires
 put-big-endian-requires c κs =
     let k = c .before .before in
     let s = k .before .before in
-    let ok = allowed _ _ (sym (k .before .access-refusal .ensures) ∙ k .if2 .left) in (omega (arith, ok .1, (lengths 8192 _ _ (s .before .are-sized .ensures) (s .if1 .taken)) .0, c .before .index .ensures), ok .0)
+    let ok = allowed _ _ (sym (k .before .access-refusal .ensures) ∙ k .if2 .left) in
+    (omega (arith, ok .1, (lengths 8192 _ _ (s .before .are-sized .ensures) (s .if1 .taken)) .0, c .before .index .ensures), ok .0)
 
 mul-old : tie.Need-mul-old
 mul-old c = search needs

@@ -19,7 +19,13 @@ with-field-requires-2 : tie.Need-with-field-requires-2
 with-field-requires-2 c κs = search needs
 
 returns : tie.Need-returns
-returns c = rw (c .with-field2 .ensures, c .before .unit-of .ensures, c .before .before .with-field .ensures, c .before .before .before .exc-code-of .ensures)
+returns c =
+    rw (
+      c .with-field2 .ensures,
+      c .before .unit-of .ensures,
+      c .before .before .with-field .ensures,
+      c .before .before .before .exc-code-of .ensures,
+    )
 
 pub cause-spec : {M : Type 1} → statement M
 cause-spec =

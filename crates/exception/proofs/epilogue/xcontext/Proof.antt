@@ -16,7 +16,13 @@ with-field-requires-2 : tie.Need-with-field-requires-2
 with-field-requires-2 c κs = search needs
 
 returns : tie.Need-returns
-returns c = rw (c .with-field2 .ensures, c .before .field2 .ensures, c .before .before .with-field .ensures, c .before .before .before .field .ensures)
+returns c =
+    rw (
+      c .with-field2 .ensures,
+      c .before .field2 .ensures,
+      c .before .before .with-field .ensures,
+      c .before .before .before .field .ensures,
+    )
 
 pub xcontext-spec : {M : Type 1} → statement M
 xcontext-spec =

@@ -16,7 +16,13 @@ with-field-requires-4 : tie.Need-with-field-requires-4
 with-field-requires-4 c κs = search needs
 
 returns : tie.Need-returns
-returns c = rw (c .with-field4 .ensures, c .before .with-field3 .ensures, c .before .before .with-field2 .ensures, c .before .before .before .with-field .ensures)
+returns c =
+    rw (
+      c .with-field4 .ensures,
+      c .before .with-field3 .ensures,
+      c .before .before .with-field2 .ensures,
+      c .before .before .before .with-field .ensures,
+    )
 
 pub nmi-status-spec : {M : Type 1} → statement M
 nmi-status-spec =

@@ -27,7 +27,9 @@ refill-offset-requires : tie.Need-refill-offset-requires
 refill-offset-requires c κs = search needs
 
 add-result-2 : tie.Need-add-result-2
-add-result-2 c = record { fits = omega (arith, c .before .base2 .ensures, c .refill-offset .ensures, base-le (c .before .before .before .before .args .status), offset-le (c .before .before .before .before .args .status) 0x000 (omega arith)) }
+add-result-2 c =
+    let s = c .before .before .before .before .args .status in
+    record { fits = omega (arith, c .before .base2 .ensures, c .refill-offset .ensures, base-le s, offset-le s 0x000 (omega arith)) }
 
 enum-told-4 : tie.Need-enum-told-4
 enum-told-4 c = search needs
@@ -39,7 +41,9 @@ refill-offset-requires-2 : tie.Need-refill-offset-requires-2
 refill-offset-requires-2 c κs = search needs
 
 add-result-3 : tie.Need-add-result-3
-add-result-3 c = record { fits = omega (arith, c .before .base3 .ensures, c .refill-offset2 .ensures, base-le (c .before .before .before .before .args .status), offset-le (c .before .before .before .before .args .status) 0x080 (omega arith)) }
+add-result-3 c =
+    let s = c .before .before .before .before .args .status in
+    record { fits = omega (arith, c .before .base3 .ensures, c .refill-offset2 .ensures, base-le s, offset-le s 0x080 (omega arith)) }
 
 returns : tie.Need-returns
 returns c = search needs
