@@ -32,9 +32,9 @@ pub fn write(out: &mut [u8], used: usize, answer: Answer, s: Session) -> usize
         Answer::Vector(taken) => of_dispatch(out, used, taken),
         Answer::Hit => put(out, used, b"hit\n"),
         Answer::Fill => put(out, used, b"fill\n"),
-        Answer::Kept => put(out, used, b"none\n"),
+        Answer::None => put(out, used, b"none\n"),
         Answer::Evict(addr, words) => of_evict(out, used, addr, words),
-        Answer::Line(tag, words) => of_line(out, used, tag, words),
+        Answer::Line(tag_word, words) => of_line(out, used, tag_word, words),
         Answer::State => of_state(out, used, s),
     }
 }
@@ -147,11 +147,11 @@ fn of_evict(out: &mut [u8], used: usize, addr: u32, words: Words) -> usize
 }
 
 // A cache's line: in its tag word bits 19..0 are the tag, bit 20 is valid and bit 21 is dirty.
-fn of_line(out: &mut [u8], used: usize, tag: u32, words: Words) -> usize
+fn of_line(out: &mut [u8], used: usize, tag_word: u32, words: Words) -> usize
     requires { ⌜ used ≤ length (now out) ⌝ }
     ensures { λ r. ⌜ r ≤ length (now (out .exit)) ⌝ }
 {
-    let word = tag as u64;
+    let word = tag_word as u64;
     let used = put(out, used, b"line");
     let used = digits(out, used, word % 0x10_0000, 16);
     let used = digits(out, used, word / 0x10_0000 % 2, 1);

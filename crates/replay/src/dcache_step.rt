@@ -47,7 +47,7 @@ fn written_back(made: DataWriteback) -> Answer {
     let answer = made.answer;
     let data = made.data;
     match answer {
-        WritebackAnswer::None => Answer::Kept,
+        WritebackAnswer::None => Answer::None,
         WritebackAnswer::Evict(addr) => evicted(addr, data),
         WritebackAnswer::Refused(k) => Answer::Refused(k),
     }

@@ -27,7 +27,7 @@ fn written_back(made: InstructionWriteback) -> Answer {
     let answer = made.answer;
     let data = made.data;
     match answer {
-        WritebackAnswer::None => Answer::Kept,
+        WritebackAnswer::None => Answer::None,
         WritebackAnswer::Evict(addr) => evicted(addr, data),
         WritebackAnswer::Refused(k) => Answer::Refused(k),
     }

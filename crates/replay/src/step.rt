@@ -30,8 +30,8 @@ pub enum Answer {
     Hit,
     Fill,
     // Nothing is to be written back.
-    Kept,
-    // A line to be written back, and to which address.
+    None,
+    // A line that is to be written back, and to which address.
     Evict(u32, Words),
     // A tag word and a line.
     Line(u32, Words),

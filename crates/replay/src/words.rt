@@ -50,14 +50,14 @@ fn word(bytes: &[u8], at: usize) -> u64
     let mut value: u64 = 0;
     let mut i = 0;
     while i < 8 {
-        value = then(value, bytes[at + i]);
+        value = with_byte(value, bytes[at + i]);
         i += 1;
     }
     value
 }
 
-// A word's bytes so far, and the next. There are never more than eight, so that none is cut off.
-fn then(value: u64, byte: u8) -> u64 {
+// The bytes so far, and one more. A word has eight, so that none is cut off.
+fn with_byte(value: u64, byte: u8) -> u64 {
     value % 0x100_0000_0000_0000 * 256 + byte as u64
 }
 

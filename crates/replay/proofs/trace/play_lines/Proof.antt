@@ -8,13 +8,12 @@ use Rattle.replay.proofs.trace.play_lines.Statement.{statement}
 use Rattle.replay.proofs.trace.play_lines.Tie as tie
 
 abbrev Inv-loop : tie.InvT-loop
-Inv-loop text out₀ used d_lines₀ d_tags₀ i_lines₀ i_tags₀ run₀ at₀ number₀ out d_lines d_tags i_lines i_tags run at number =
+Inv-loop text out₀ used d₀ dt₀ i₀ it₀ run₀ at₀ number₀ out d dt i it run at number =
     (at ≤ length text + 1) × (number ≤ at) × (run .used ≤ length out) × (length out ≡ length out₀)
-    × (length d_lines ≡ length d_lines₀) × (length d_tags ≡ length d_tags₀)
-    × (length i_lines ≡ length i_lines₀) × (length i_tags ≡ length i_tags₀)
+    × (length d ≡ length d₀) × (length dt ≡ length dt₀) × (length i ≡ length i₀) × (length it ≡ length it₀)
 
 abbrev μ-loop : tie.MeasureT-loop
-μ-loop text out₀ used d_lines₀ d_tags₀ i_lines₀ i_tags₀ run₀ at₀ number₀ out d_lines d_tags i_lines i_tags run at number = length text - at
+μ-loop text out₀ used d₀ dt₀ i₀ it₀ run₀ at₀ number₀ out d dt i it run at number = length text - at
 
 new-requires : tie.Need-new-requires Inv-loop μ-loop
 new-requires c κs = search needs

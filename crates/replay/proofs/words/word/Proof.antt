@@ -13,14 +13,14 @@ abbrev μ-loop : tie.MeasureT-loop
 loop-holds : tie.Need-loop-holds Inv-loop μ-loop
 loop-holds c = search needs
 
-add-then : tie.Need-add-then Inv-loop μ-loop
-add-then c = search needs
+add-with-byte : tie.Need-add-with-byte Inv-loop μ-loop
+add-with-byte c = search needs
 
-shared-slice-read-then : tie.Need-shared-slice-read-then Inv-loop μ-loop
-shared-slice-read-then c = search needs
+shared-slice-read-with-byte : tie.Need-shared-slice-read-with-byte Inv-loop μ-loop
+shared-slice-read-with-byte c = search needs
 
-then-requires : tie.Need-then-requires Inv-loop μ-loop
-then-requires c κs = search needs
+with-byte-requires : tie.Need-with-byte-requires Inv-loop μ-loop
+with-byte-requires c κs = search needs
 
 add-i : tie.Need-add-i Inv-loop μ-loop
 add-i c = search needs
@@ -41,9 +41,9 @@ word-spec =
     Inv-loop
     μ-loop
     loop-holds
-    add-then
-    shared-slice-read-then
-    then-requires
+    add-with-byte
+    shared-slice-read-with-byte
+    with-byte-requires
     add-i
     loop-less
     loop-again
