@@ -3,6 +3,7 @@ use crate::dcache_step;
 use crate::exception_step;
 use crate::icache_step;
 use crate::op::Op;
+use crate::op::SessionOp;
 use crate::register_step;
 use crate::session::Session;
 use crate::translation_step;
@@ -89,10 +90,7 @@ pub fn play(
 ) -> Played {
     match op {
         Op::New => answered(renewed(d_lines, d_tags, i_lines, i_tags), Session::new()),
-        Op::State => answered(Answer::State, s),
-        Op::Register(op) => register_step::play(op, s),
-        Op::Translation(op) => translation_step::play(op, s),
-        Op::Exception(op) => exception_step::play(op, s),
+        Op::Session(op) => on_session(op, s),
         Op::Dcache(op) => answered(dcache_step::play(op, d_lines, d_tags), s),
         Op::Icache(op) => answered(icache_step::play(op, i_lines, i_tags), s),
     }
@@ -100,6 +98,15 @@ pub fn play(
 
 fn answered(answer: Answer, session: Session) -> Played {
     Played { answer, session }
+}
+
+fn on_session(op: SessionOp, s: Session) -> Played {
+    match op {
+        SessionOp::State => answered(Answer::State, s),
+        SessionOp::Register(op) => register_step::play(op, s),
+        SessionOp::Translation(op) => translation_step::play(op, s),
+        SessionOp::Exception(op) => exception_step::play(op, s),
+    }
 }
 
 // Fresh caches.
