@@ -97,7 +97,8 @@ mod tests {
                 let flags = format!("line 00000000000abcde {} {} ", pstate / 3, u8::from(writes));
                 assert!(answer.starts_with(&flags), "{answer}");
             }
-            assert!(data_line(&dcache, index.into()).ends_with(" 00000000001122334455667788000000"));
+            let bytes = " 00000000001122334455667788000000";
+            assert!(data_line(&dcache, index.into()).ends_with(bytes));
         }
     }
 
