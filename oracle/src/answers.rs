@@ -3,13 +3,14 @@
 use std::fmt::Write;
 
 use original::addr::{Access, Cached, Mode, Physical, Segment, TranslateError};
+use original::cache::Writeback;
 use original::exception::Dispatch;
 use original::tlb::{Entry, PageEntry, TlbFault, Translated, JTLB_ENTRIES};
 
 /// What stands for an empty slot of the micro-TLB.
 const EMPTY: u64 = JTLB_ENTRIES as u64;
 
-/// A line in the making: a name, then numbers and flags.
+/// A line in the making: a name, then numbers, flags and bytes.
 struct Line(String);
 
 impl Line {
@@ -27,9 +28,20 @@ impl Line {
         self
     }
 
+    fn bytes(mut self, bytes: &[u8]) -> Self {
+        self.0 += " ";
+        bytes.iter().for_each(|byte| write!(self.0, "{byte:02x}").expect("a text takes all"));
+        self
+    }
+
     fn half(self, page: PageEntry) -> Self {
         self.number(page.pfn).number(page.c).flag(page.dirty).flag(page.valid)
     }
+}
+
+/// There is nothing to say.
+pub fn done(_: ()) -> String {
+    "ok".into()
 }
 
 pub fn number(value: u64) -> String {
@@ -96,6 +108,27 @@ pub fn access(access: Access) -> String {
 
 pub fn dispatch(taken: Dispatch) -> String {
     Line::new("vector").number(taken.vector).number(taken.stall_cycles).0
+}
+
+/// What a miss asks for, if it is one.
+pub fn miss_plan(plan: Option<Option<Writeback<16>>>) -> String {
+    match plan {
+        None => "hit".into(),
+        Some(None) => "fill".into(),
+        Some(Some(out)) => evict(out),
+    }
+}
+
+pub fn writeback<const N: usize>(out: Option<Writeback<N>>) -> String {
+    out.map_or("none".into(), evict)
+}
+
+pub fn cache_line(tag: u32, valid: bool, dirty: bool, bytes: &[u8]) -> String {
+    Line::new("line").number(tag).flag(valid).flag(dirty).bytes(bytes).0
+}
+
+fn evict<const N: usize>(out: Writeback<N>) -> String {
+    Line::new("evict").number(out.addr).bytes(&out.data).0
 }
 
 /// The flag is UNCACHED for a lookup and CACHED for a translation.

@@ -1,10 +1,11 @@
 //! Plays a trace on the Rust original: the answers that the port is held to.
 //!
 //! A trace line is read by [`parse`], named in the table of [`operations`] (and its exception in
-//! that of [`exceptions`]), run on the original's records in [`machine`], and answered in the words
-//! of [`answers`]; [`play`] goes through a whole trace.
+//! that of [`exceptions`]), run on the original's records in [`machine`] (the caches through
+//! [`caches`]), and answered in the words of [`answers`]; [`play`] goes through a whole trace.
 
 mod answers;
+mod caches;
 pub mod exceptions;
 mod fields;
 pub mod machine;

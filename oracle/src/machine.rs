@@ -1,6 +1,7 @@
 //! The original's records, and what the scope (document 01) adds to them.
 
 use original::addr::{Access, Mode};
+use original::cache::{Dcache, Icache};
 use original::cop0::{reg, Cop0};
 use original::tlb::{Tlb, JTLB_ENTRIES};
 
@@ -23,6 +24,10 @@ const KX: u8 = 7;
 pub struct Refusal(pub u8);
 
 impl Refusal {
+    /// A data length of 0 or over 8.
+    pub const LENGTH: Self = Self(2);
+    /// Data or a word that goes past its line's end.
+    pub const OFFSET: Self = Self(3);
     /// KSU is 3, which names no mode, and EXL is 0.
     pub const MODE: Self = Self(4);
     /// An advance of 2^32 counts or more: the timer's distances would come round unseen.
@@ -35,6 +40,8 @@ impl Refusal {
 pub struct Machine {
     pub cop0: Cop0,
     pub tlb: Tlb,
+    pub dcache: Dcache,
+    pub icache: Icache,
 }
 
 impl Default for Machine {
@@ -45,7 +52,7 @@ impl Default for Machine {
 
 impl Machine {
     pub fn new() -> Self {
-        Self { cop0: Cop0::new(), tlb: Tlb::new() }
+        Self { cop0: Cop0::new(), tlb: Tlb::new(), dcache: Dcache::new(), icache: Icache::new() }
     }
 
     /// The scope's clock advance, which the original leaves to its scheduler: moves the clock,

@@ -6,6 +6,7 @@ use original::exception;
 use original::tlb::Tlb;
 
 use crate::answers;
+use crate::caches;
 use crate::exceptions::{self, VECTOR_KINDS};
 use crate::machine::{Machine, Refusal};
 use crate::parse::Operand::{self, Byte, Exception, Flag, Long, Mode, Vector, Word, A, B};
@@ -72,6 +73,25 @@ pub static OPERATIONS: &[Operation] = &[
     row("dispatch", &[Exception, A, B, Long, Flag, Long], Says(|m, a| Ok(dispatch(m, a)))),
     row("nmi", &[Long], Says(|m, a| Ok(nmi(m, a)))),
     row("eret", &[], Gives(|m, _| exception::eret(&mut m.cop0))),
+    row("d_hits", &[Word], Asks(|m, a| m.dcache.hits(word(a[0])))),
+    row("i_hits", &[Word], Asks(|m, a| m.icache.hits(word(a[0])))),
+    row("d_miss_plan", &[Word], Says(|m, a| Ok(miss_plan(m, a)))),
+    row("d_install", &[Word, Long, Long], Does(|m, a| m.dcache.install(word(a[0]), line(a)))),
+    row("i_install", &[Word, Long, Long, Long, Long], Does(i_install)),
+    row("d_read", &[Word, Long], Says(|m, a| d_read(m, a).map(answers::number))),
+    row("d_write", &[Word, Long, Long], Says(|m, a| d_write(m, a).map(answers::done))),
+    row("i_read_word", &[Word], Says(|m, a| i_read_word(m, a).map(answers::number))),
+    row("d_load_tag", &[Word], Gives(|m, a| m.dcache.load_tag(word(a[0])).into())),
+    row("i_load_tag", &[Word], Gives(|m, a| m.icache.load_tag(word(a[0])).into())),
+    row("d_store_tag", &[Word, Word], Does(|m, a| m.dcache.store_tag(word(a[0]), word(a[1])))),
+    row("i_store_tag", &[Word, Word], Does(|m, a| m.icache.store_tag(word(a[0]), word(a[1])))),
+    row("d_flush_index", &[Word, Flag, Flag], Says(|m, a| Ok(flush_index(m, a)))),
+    row("d_create_dirty_exclusive", &[Word], Says(|m, a| Ok(create_dirty_exclusive(m, a)))),
+    row("i_invalidate_index", &[Word], Does(|m, a| m.icache.invalidate_index(word(a[0])))),
+    row("i_hit_invalidate", &[Word], Does(|m, a| m.icache.hit_invalidate(word(a[0])))),
+    row("i_flush_hit", &[Word], Says(|m, a| Ok(flush_hit(m, a)))),
+    row("d_line", &[Long], Says(|m, a| Ok(caches::data_line(&m.dcache, a[0])))),
+    row("i_line", &[Long], Says(|m, a| Ok(caches::instruction_line(&m.icache, a[0])))),
     row("state", &[], Says(|m, _| Ok(m.state()))),
 ];
 
@@ -90,7 +110,7 @@ impl Operation {
         match self.run {
             Does(run) => {
                 run(machine, operands);
-                "ok".into()
+                answers::done(())
             }
             Gives(run) => answers::number(run(machine, operands)),
             Asks(run) => answers::flag(run(machine, operands)),
@@ -156,4 +176,43 @@ fn dispatch(machine: &mut Machine, operands: &[u64]) -> String {
 
 fn nmi(machine: &mut Machine, operands: &[u64]) -> String {
     answers::dispatch(exception::nmi(&mut machine.cop0, operands[0]))
+}
+
+fn miss_plan(machine: &mut Machine, operands: &[u64]) -> String {
+    answers::miss_plan(machine.dcache.miss_plan(word(operands[0])))
+}
+
+/// The line that the operands after an address write: its words, the highest byte first.
+fn line<const N: usize>(operands: &[u64]) -> [u8; N] {
+    let bytes: Vec<u8> = operands[1..].iter().flat_map(|word| word.to_be_bytes()).collect();
+    bytes.try_into().expect("the row has all of a line's words")
+}
+
+fn i_install(machine: &mut Machine, operands: &[u64]) {
+    machine.icache.install(word(operands[0]), line(operands));
+}
+
+fn d_read(machine: &mut Machine, operands: &[u64]) -> Result<u64, Refusal> {
+    caches::read(&machine.dcache, word(operands[0]), operands[1])
+}
+
+fn d_write(machine: &mut Machine, operands: &[u64]) -> Result<(), Refusal> {
+    caches::write(&mut machine.dcache, word(operands[0]), operands[1], operands[2])
+}
+
+fn i_read_word(machine: &mut Machine, operands: &[u64]) -> Result<u64, Refusal> {
+    caches::read_word(&machine.icache, word(operands[0])).map(u64::from)
+}
+
+fn flush_index(machine: &mut Machine, operands: &[u64]) -> String {
+    let (addr, invalidate, clean) = (word(operands[0]), operands[1] == 1, operands[2] == 1);
+    answers::writeback(machine.dcache.flush_index(addr, invalidate, clean))
+}
+
+fn create_dirty_exclusive(machine: &mut Machine, operands: &[u64]) -> String {
+    answers::writeback(machine.dcache.create_dirty_exclusive(word(operands[0])))
+}
+
+fn flush_hit(machine: &mut Machine, operands: &[u64]) -> String {
+    answers::writeback(machine.icache.flush_hit(word(operands[0])))
 }

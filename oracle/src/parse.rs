@@ -218,6 +218,23 @@ mod tests {
     }
 
     #[test]
+    fn bounds_of_a_cache_operation() {
+        assert_eq!(operands(b"d_hits ffffffff"), [u64::from(u32::MAX)]);
+        assert_eq!(operands(b"i_line ffffffffffffffff"), [u64::MAX]);
+        assert_eq!(operands(b"d_read 0 ffffffffffffffff"), [0, u64::MAX]);
+        for line in [
+            b"d_hits 100000000" as &[u8],
+            b"i_install 100000000 0 0 0 0",
+            b"d_read 100000000 0",
+            b"d_store_tag 0 100000000",
+            b"d_flush_index 0 0 2",
+        ] {
+            assert_eq!(fault(line), Some(Fault::OutOfRange), "{line:?}");
+        }
+        assert_eq!(fault(b"i_install 0 0 0 0"), Some(Fault::WrongNumberOfOperands));
+    }
+
+    #[test]
     fn order_of_the_checks() {
         assert_eq!(fault(b"Count zz"), Some(Fault::UnknownOperation));
         assert_eq!(fault(b"count\r"), Some(Fault::UnknownOperation));

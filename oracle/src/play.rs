@@ -129,6 +129,28 @@ mod tests {
         assert_eq!(text(trace), answers);
     }
 
+    /// P12: a line that only its tag was stored to is at 12010 once it is written and flushed.
+    #[test]
+    fn words_of_caches() {
+        let trace =
+            b"d_miss_plan 10\nd_store_tag 1010 12c0\nd_load_tag 1010\nd_write 1010 2 abcd\n\
+                      d_miss_plan 1010\nd_flush_index 1010 0 1\nd_flush_index 1010 0 1\n\
+                      d_create_dirty_exclusive 1010\nd_miss_plan 1018\nd_line 101\nnew\nd_line 101";
+        let bytes = "abcd0000000000000000000000000000";
+        let answers = format!(
+            "fill\nok\n= 00000000000012c0\nok\nevict 0000000000012010 {bytes}\n\
+             evict 0000000000012010 {bytes}\nnone\nnone\nhit\n\
+             line 0000000000000001 1 1 {bytes}\nok\n\
+             line 0000000000000000 0 0 00000000000000000000000000000000"
+        );
+        assert_eq!(text(trace), answers);
+        let trace = b"i_install fe4 0 1 2 3\ni_read_word fec\ni_read_word fff\ni_flush_hit 1fe0\n\
+                      i_flush_hit fff";
+        let answers = "ok\n= 0000000000000001\nrefused 3\nnone\nevict 0000000000000fe0 \
+                       0000000000000000000000000000000100000000000000020000000000000003";
+        assert_eq!(text(trace), answers);
+    }
+
     #[test]
     fn the_limit() {
         let mut trace = b"timer_edge\n#".to_vec();

@@ -6,6 +6,7 @@ use crate::request::Fault;
 use crate::session::Session;
 use crate::step::Answer;
 use crate::step::Place;
+use crate::words::Words;
 use addr::Access;
 use addr::Mode;
 use cop0::Cop0;
@@ -29,6 +30,11 @@ pub fn write(out: &mut [u8], used: usize, answer: Answer, s: Session) -> usize
         Answer::Entry(i, e) => of_entry(out, used, i, e),
         Answer::Access(access) => of_access(out, used, access),
         Answer::Vector(taken) => of_dispatch(out, used, taken),
+        Answer::Hit => put(out, used, b"hit\n"),
+        Answer::Fill => put(out, used, b"fill\n"),
+        Answer::None => put(out, used, b"none\n"),
+        Answer::Evict(addr, words) => of_evict(out, used, addr, words),
+        Answer::Line(tag_word, words) => of_line(out, used, tag_word, words),
         Answer::State => of_state(out, used, s),
     }
 }
@@ -131,7 +137,56 @@ fn of_dispatch(out: &mut [u8], used: usize, taken: Dispatch) -> usize
     line(out, used, b"vector", b"nn", &values)
 }
 
-// All that a run works on.
+fn of_evict(out: &mut [u8], used: usize, addr: u32, words: Words) -> usize
+    requires { ⌜ used ≤ length (now out) ⌝ }
+    ensures { λ r. ⌜ r ≤ length (now (out .exit)) ⌝ }
+{
+    let used = put(out, used, b"evict");
+    let used = digits(out, used, addr as u64, 16);
+    of_words(out, used, words)
+}
+
+// A cache's line: in its tag word bits 19..0 are the tag, bit 20 is valid and bit 21 is dirty.
+fn of_line(out: &mut [u8], used: usize, tag_word: u32, words: Words) -> usize
+    requires { ⌜ used ≤ length (now out) ⌝ }
+    ensures { λ r. ⌜ r ≤ length (now (out .exit)) ⌝ }
+{
+    let word = tag_word as u64;
+    let used = put(out, used, b"line");
+    let used = digits(out, used, word % 0x10_0000, 16);
+    let used = digits(out, used, word / 0x10_0000 % 2, 1);
+    let used = digits(out, used, word / 0x20_0000 % 2, 1);
+    of_words(out, used, words)
+}
+
+// A line's bytes, in memory's order, and the end of the answer.
+fn of_words(out: &mut [u8], used: usize, words: Words) -> usize
+    requires { ⌜ used ≤ length (now out) ⌝ }
+    ensures { λ r. ⌜ r ≤ length (now (out .exit)) ⌝ }
+{
+    let used = put(out, used, b" ");
+    match words {
+        Words::Data(a, b) => {
+            let used = pair(out, used, a, b);
+            put(out, used, b"\n")
+        }
+        Words::Instructions(a, b, c, d) => {
+            let used = pair(out, used, a, b);
+            let used = pair(out, used, c, d);
+            put(out, used, b"\n")
+        }
+    }
+}
+
+fn pair(out: &mut [u8], used: usize, first: u64, second: u64) -> usize
+    requires { ⌜ used ≤ length (now out) ⌝ }
+    ensures { λ r. ⌜ r ≤ length (now (out .exit)) ⌝ }
+{
+    let used = hexadecimal(out, used, first, 16);
+    hexadecimal(out, used, second, 16)
+}
+
+// The session whole.
 fn of_state(out: &mut [u8], used: usize, s: Session) -> usize
     requires { ⌜ used ≤ length (now out) ⌝ }
     ensures { λ r. ⌜ r ≤ length (now (out .exit)) ⌝ }
@@ -217,9 +272,16 @@ fn digits(out: &mut [u8], used: usize, value: u64, width: usize) -> usize
     requires { ⌜ used ≤ length (now out) ⌝ }
     ensures { λ r. ⌜ r ≤ length (now (out .exit)) ⌝ }
 {
+    let used = put(out, used, b" ");
+    hexadecimal(out, used, value, width)
+}
+
+fn hexadecimal(out: &mut [u8], used: usize, value: u64, width: usize) -> usize
+    requires { ⌜ used ≤ length (now out) ⌝ }
+    ensures { λ r. ⌜ r ≤ length (now (out .exit)) ⌝ }
+{
     let mut text = [0u8; 16];
     let n = io::hex(value, width, &mut text);
-    let used = put(out, used, b" ");
     put(out, used, &text[..n])
 }
 

@@ -1,6 +1,7 @@
 // The operations of exceptions, and their names.
 use crate::op::Named;
 use crate::op::Op;
+use crate::op::SessionOp;
 use check::same;
 use exception::Exception;
 use exception::VectorKind;
@@ -48,5 +49,5 @@ impl ExceptionOp {
 }
 
 fn this(op: ExceptionOp) -> Named {
-    Named::This(Op::Exception(op))
+    Named::This(Op::Session(SessionOp::Exception(op)))
 }

@@ -1,14 +1,19 @@
-// Plays traces of COP0, TLB and exception operations and writes an answer to each operation (docs/TRACE.md says what a
-// trace is).
+// Plays traces of COP0, TLB, exception and cache operations and writes an answer to each operation (docs/TRACE.md says what
+// a trace is).
 //
 // From bytes to an answer: `input` reads a trace whole, `trace` goes through it line by line, `line` finds words,
 // `operand` and `number` read the operands, `kind` says what their numbers stand for, `op` has the operations and their
-// names (`register_op`, `translation_op`, `exception_op`), `request` makes one `Op` of a line, `step` plays it on the
-// `session` (`register_step`, `translation_step`, `exception_step`), `answer` says what came of it, and `output` holds the
-// text until there is much to write.
+// names (`register_op`, `translation_op`, `exception_op`, `dcache_op`, `icache_op`), `request` makes one `Op` of a line,
+// `step` plays it on the `session` (`register_step`, `translation_step`, `exception_step`) or on the caches (`dcache_step`,
+// `icache_step`, with lines as `words`), `answer` says what came of it, and `output` holds the text until there is much to
+// write.
 mod answer;
+mod dcache_op;
+mod dcache_step;
 mod exception_op;
 mod exception_step;
+mod icache_op;
+mod icache_step;
 mod input;
 mod kind;
 mod line;
@@ -24,6 +29,7 @@ mod step;
 mod trace;
 mod translation_op;
 mod translation_step;
+mod words;
 
 ghost use Prim.Native.Nat.{_≤_};
 ghost use lib.ListN.{length};

@@ -1,6 +1,7 @@
 // The operations of the registers, and their names.
 use crate::op::Named;
 use crate::op::Op;
+use crate::op::SessionOp;
 use check::same;
 
 // An operation with its operands.
@@ -124,5 +125,5 @@ impl RegisterOp {
 }
 
 fn this(op: RegisterOp) -> Named {
-    Named::This(Op::Register(op))
+    Named::This(Op::Session(SessionOp::Register(op)))
 }

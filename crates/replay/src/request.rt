@@ -1,7 +1,9 @@
 // What a line asks: an operation, nothing, or something that is wrong.
 ghost use mathlib.Core.Path.{_≡_};
 ghost use Rattle.replay.specs.Request.{over, checkedOf};
+use crate::dcache_op::DcacheOp;
 use crate::exception_op::ExceptionOp;
+use crate::icache_op::IcacheOp;
 use crate::kind::BYTE;
 use crate::kind::EXCEPTION;
 use crate::kind::FLAG;
@@ -87,6 +89,23 @@ fn of_one(name: &[u8], args: Operands) -> Asked {
     if let Named::This(op) = ExceptionOp::of_long(name, value) {
         return checked(op, args, &[LONG]);
     }
+    of_one_of_caches(name, args)
+}
+
+fn of_one_of_caches(name: &[u8], args: Operands) -> Asked {
+    let value = args.values[0];
+    if let Named::This(op) = DcacheOp::of_word(name, word(value)) {
+        return checked(op, args, &[WORD]);
+    }
+    if let Named::This(op) = DcacheOp::of_long(name, value) {
+        return checked(op, args, &[LONG]);
+    }
+    if let Named::This(op) = IcacheOp::of_word(name, word(value)) {
+        return checked(op, args, &[WORD]);
+    }
+    if let Named::This(op) = IcacheOp::of_long(name, value) {
+        return checked(op, args, &[LONG]);
+    }
     of_two(name, args)
 }
 
@@ -108,6 +127,21 @@ fn of_two(name: &[u8], args: Operands) -> Asked {
     if let Named::This(op) = ExceptionOp::of_long_vector(name, first, vector_of(second)) {
         return checked(op, args, &[LONG, VECTOR]);
     }
+    of_two_of_caches(name, args)
+}
+
+fn of_two_of_caches(name: &[u8], args: Operands) -> Asked {
+    let addr = word(args.values[0]);
+    let second = args.values[1];
+    if let Named::This(op) = DcacheOp::of_word_long(name, addr, second) {
+        return checked(op, args, &[WORD, LONG]);
+    }
+    if let Named::This(op) = DcacheOp::of_word_word(name, addr, word(second)) {
+        return checked(op, args, &[WORD, WORD]);
+    }
+    if let Named::This(op) = IcacheOp::of_word_word(name, addr, word(second)) {
+        return checked(op, args, &[WORD, WORD]);
+    }
     of_more(name, args)
 }
 
@@ -125,6 +159,21 @@ fn of_more(name: &[u8], args: Operands) -> Asked {
     let access = access_of(v[3], v[4], v[5]);
     if let Named::This(op) = TranslationOp::of_all(name, v[0], asid, store, access) {
         return checked(op, args, &[LONG, BYTE, FLAG, MODE, FLAG, FLAG]);
+    }
+    of_more_of_caches(name, args)
+}
+
+fn of_more_of_caches(name: &[u8], args: Operands) -> Asked {
+    let v = args.values;
+    let addr = word(v[0]);
+    if let Named::This(op) = DcacheOp::of_word_longs(name, addr, v[1], v[2]) {
+        return checked(op, args, &[WORD, LONG, LONG]);
+    }
+    if let Named::This(op) = DcacheOp::of_word_flags(name, addr, flag(v[1]), flag(v[2])) {
+        return checked(op, args, &[WORD, FLAG, FLAG]);
+    }
+    if let Named::This(op) = IcacheOp::of_word_longs(name, addr, v[1], v[2], v[3], v[4]) {
+        return checked(op, args, &[WORD, LONG, LONG, LONG, LONG]);
     }
     of_exception(name, args)
 }

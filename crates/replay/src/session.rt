@@ -1,4 +1,4 @@
-// What a trace works on: the registers and the TLB.
+// What a trace works on beside the caches, whose memory is lent: the registers and the TLB.
 use cop0::Cop0;
 use tlb::Tlb;
 

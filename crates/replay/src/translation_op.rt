@@ -1,6 +1,7 @@
 // The operations of the TLB and of the segments, and their names.
 use crate::op::Named;
 use crate::op::Op;
+use crate::op::SessionOp;
 use addr::Access;
 use check::same;
 
@@ -102,5 +103,5 @@ impl TranslationOp {
 }
 
 fn this(op: TranslationOp) -> Named {
-    Named::This(Op::Translation(op))
+    Named::This(Op::Session(SessionOp::Translation(op)))
 }

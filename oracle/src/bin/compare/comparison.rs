@@ -11,13 +11,13 @@ use oracle::play::play;
 use crate::judge::{judge, sections, Difference, Tally};
 use crate::options::{repository, Options};
 use crate::rng::Rng;
-use crate::{exceptions, malformed, mixed, sweeps, translation};
+use crate::{caches, exceptions, malformed, mixed, sweeps, translation};
 
 /// Traces that the program is given at a time.
 const BATCH: usize = 32;
 
 /// Traces after which the kinds of trace come again.
-const ROUND: u64 = 16;
+const ROUND: u64 = 24;
 
 /// Where a trace that differs is kept, from the repository's root.
 const KEPT: &str = "target/compare";
@@ -29,24 +29,25 @@ struct Trace {
 }
 
 impl Trace {
-    /// The trace of a number. In a `ROUND` one is a sweep and two have a plain fault, until all of
+    /// The trace of a number. In a `ROUND` two are sweeps and four have a plain fault, until all of
     /// these are done.
     fn new(seed: u64, number: u64) -> Self {
         let mut rng = Rng::new(seed, number);
         let operations = 400 + rng.index(200);
         let (round, place) = (number / ROUND, number % ROUND);
         let once = match place {
-            0 => sweeps::sweep(round).map(|text| ("sweeps", text)),
-            1 | 2 => malformed::plain_fault(2 * round + place - 1).map(|text| ("faults", text)),
+            0 | 1 => sweeps::sweep(2 * round + place).map(|text| ("sweeps", text)),
+            2..=5 => malformed::plain_fault(4 * round + place - 2).map(|text| ("faults", text)),
             _ => None,
         };
         let (kind, text) = once.unwrap_or_else(|| match place {
-            1..=3 => ("malformed", malformed::malformed(rng, round)),
-            4 => ("cut advances", mixed::cut_advances(rng, operations)),
-            5 | 6 => ("registers", mixed::session(rng, operations)),
-            7 | 8 => ("wild tables", translation::wild(rng, operations)),
-            9 | 10 => ("tame tables", translation::tame(rng, operations)),
-            _ => ("exceptions", exceptions::session(rng, operations)),
+            2..=5 => ("malformed", malformed::malformed(rng, round)),
+            6 => ("cut advances", mixed::cut_advances(rng, operations)),
+            7 | 8 => ("registers", mixed::session(rng, operations)),
+            9 | 10 => ("wild tables", translation::wild(rng, operations)),
+            11 | 12 => ("tame tables", translation::tame(rng, operations)),
+            13..=16 => ("exceptions", exceptions::session(rng, operations)),
+            _ => ("caches", caches::session(rng, operations)),
         });
         Self { name: format!("{seed:x}-{number}.trace"), kind, text }
     }

@@ -2,6 +2,8 @@
 
 mod addresses;
 mod aim;
+mod cache_sweeps;
+mod caches;
 mod comparison;
 mod draft;
 mod exception_sweeps;

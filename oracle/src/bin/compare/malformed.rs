@@ -5,7 +5,7 @@ use oracle::operations::{find, Operation, OPERATIONS};
 use oracle::parse::{Operand, LIMIT};
 
 use crate::rng::Rng;
-use crate::{aim, exceptions, mixed, translation};
+use crate::{aim, caches, exceptions, mixed, translation};
 
 type Kind = fn(&mut Rng) -> Vec<u8>;
 
@@ -96,7 +96,8 @@ fn insert(rng: &mut Rng, line: &[u8]) -> Vec<u8> {
 
 fn good(rng: &mut Rng) -> Vec<u8> {
     let operations = 1 + rng.index(40);
-    let session = rng.pick(&[mixed::session, translation::tame, exceptions::session]);
+    let session =
+        rng.pick(&[mixed::session, translation::tame, exceptions::session, caches::session]);
     session(Rng::new(rng.next(), 0), operations)
 }
 
@@ -208,7 +209,7 @@ fn exceed(rng: &mut Rng, operation: &Operation, operands: &mut [u64]) {
 
 /// Several faults in one line: the first kind in the order of checks is the one to report.
 fn several_faults(rng: &mut Rng) -> Vec<u8> {
-    let name = rng.pick(&["set_ip", "translate_via", "dispatch"]);
+    let name = rng.pick(&["set_ip", "translate_via", "dispatch", "d_flush_index"]);
     let operation = find(name.as_bytes()).expect("an operation with two bounds");
     let mut values = good_operands(rng, operation);
     exceed(rng, operation, &mut values);

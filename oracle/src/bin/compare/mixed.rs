@@ -30,12 +30,16 @@ const MOVES: [(u64, Move); 12] = [
     (1, renew),
 ];
 
-/// A session of at least so many operations.
-pub fn session(mut rng: Rng, operations: usize) -> Vec<u8> {
+pub fn session(rng: Rng, operations: usize) -> Vec<u8> {
+    session_of(rng, operations, &MOVES)
+}
+
+/// A session of some moves, of at least so many operations.
+pub fn session_of(mut rng: Rng, operations: usize, moves: &[(u64, Move)]) -> Vec<u8> {
     let dress = if rng.one_in(4) { Dress::Fancy } else { Dress::Plain };
     let mut draft = Draft::new(rng, dress);
     while draft.operations < operations {
-        any_move(&mut draft);
+        a_move(&mut draft.rng, moves)(&mut draft);
     }
     draft.finish()
 }

@@ -4,10 +4,10 @@ use original::cop0::reg;
 
 use crate::draft::{Draft, Dress};
 use crate::rng::Rng;
-use crate::{addresses, aim, exception_sweeps, exceptions};
+use crate::{addresses, aim, cache_sweeps, exception_sweeps, exceptions};
 
 /// Those of one trace.
-const SINGLE: [fn(&mut Draft); 14] = [
+const SINGLE: [fn(&mut Draft); 23] = [
     every_number,
     every_interrupt,
     every_edge,
@@ -22,6 +22,15 @@ const SINGLE: [fn(&mut Draft); 14] = [
     exception_sweeps::every_nesting,
     exception_sweeps::every_nmi,
     exception_sweeps::every_return,
+    cache_sweeps::every_length,
+    cache_sweeps::every_word,
+    cache_sweeps::every_value_bit,
+    cache_sweeps::every_data_line,
+    cache_sweeps::every_instruction_line,
+    cache_sweeps::every_address_bit,
+    cache_sweeps::every_tag_bit,
+    cache_sweeps::every_data_state,
+    cache_sweeps::every_instruction_state,
 ];
 
 /// How many traces a sweep has, and what makes the trace of a number.
