@@ -1,21 +1,21 @@
 -- What the caches hold after an operation: what was installed is there and hits, a write changes exactly its bytes, and a stored tag
 -- loads back. Reads do not ask for a hit: their definitions, and their functions, take no tags.
-use mathlib.Core.Path.{_≡_, refl, ap, _∙_}
+use mathlib.Core.Path.{_≡_, refl, ap, sym, _∙_}
 use mathlib.Core.Bool.{Bool, true, false, cond}
 use mathlib.Core.List.{List, [], _∷_, _++_, append-assoc}
-use Prim.Native.Nat.{ℕ, _+_, _-_, _*_, _^_, _<_, _≤_}
+use Prim.Native.Nat.{ℕ, _+_, _-_, _*_, _%_, _^_, _<_, _≤_}
 use native.Mathlib.Omega.{arith}
 use lib.Dec.{eqb}
 use lib.ListN.{length, getD, set, take, drop, length-set, length-drop}
-use lib.Seq.{length-take-le, paste, take-all, take-at, drop-at, drop-paste, getD-set-same, set-getD}
+use lib.Seq.{length-take-le, paste, length-paste, take-all, take-append-le, drop-append-le, drop-drop, take-at, drop-at, drop-paste, getD-set-same, set-getD}
 use borrow.Author.Tests.{eq-eqb, eqb-true}
 use Rattle.bits.specs.Field.{fieldOf}
 use Rattle.bits.specs.Told.{answered}
 use Rattle.cache.specs.Tags.{tagOf, wordOf, storedOf}
 use Rattle.cache.specs.Lines.{indexOf, startOf, placeOf}
-use Rattle.cache.specs.Bytes.{eight, bytesOf}
+use Rattle.cache.specs.Bytes.{bigEndian, eight, bytesOf}
 use Rattle.cache.specs.Both.{sized, hitsTold, loadTold, storeTags, installBytes, installTags}
-use Rattle.cache.specs.Data.{fits, accessRefusal, writes, writeBytes, flushTags}
+use Rattle.cache.specs.Data.{fits, accessRefusal, readTold, writes, writeBytes, flushTags}
 use Rattle.cache.proofs.TagLaws.{hit-back, tag-lo-back}
 use Rattle.cache.proofs.PartLaws.{both, lengths, allowed}
 
@@ -26,6 +26,19 @@ copied-back d s at n h e =
     ∙ ap (take n) (drop-at (take at d) (take n s ++ drop (at + n) d) at (length-take-le at d h))
     ∙ take-at (take n s) (drop (at + n) d) n (length-take-le n s (omega arith))
     ∙ take-all n s (omega arith)
+
+-- and any part of them is
+pub part-back : (d s : List ℕ) (at n o len : ℕ) → at ≤ length d → length s ≡ n → o + len ≤ n
+    → take len (drop (at + o) (paste d at s n)) ≡ take len (drop o s)
+part-back d s at n o len h e inside =
+    let rest : List ℕ = drop (at + n) d in
+    let all : take n s ≡ s = take-all n s (omega arith) in
+    ap (λ (l : List ℕ). take len (drop (at + o) l)) (append-assoc (take at d) (take n s) rest)
+    ∙ ap (take len) (sym (drop-drop o at (take at d ++ (take n s ++ rest))))
+    ∙ ap (λ (l : List ℕ). take len (drop o l)) (drop-at (take at d) (take n s ++ rest) at (length-take-le at d h))
+    ∙ ap (λ (l : List ℕ). take len (drop o (l ++ rest))) all
+    ∙ ap (take len) (drop-append-le o s rest (omega arith))
+    ∙ take-append-le len (drop o s) rest (omega (arith, length-drop o s))
 
 -- a line that is installed, over the size of a line: it hits, and holds the bytes
 module _ (size bytes : ℕ) (ls ws : List ℕ) (a : ℕ) (fit : sized bytes ls ws ≡ true) where
@@ -56,6 +69,23 @@ data-installed ls ws a line fit = installed-bytes 16 8192 ls ws a fit line (omeg
 pub instruction-installed : (ls ws : List ℕ) (a : ℕ) (line : List ℕ) → sized 16384 ls ws ≡ true → length line ≡ 32
     → take 32 (drop (startOf 32 a) (installBytes 32 16384 ls ws a line)) ≡ line
 instruction-installed ls ws a line fit = installed-bytes 32 16384 ls ws a fit line (omega arith)
+
+-- an access to the line reads what was installed, at every offset and length that it may have
+pub installed-reads : (ls ws : List ℕ) (a b len : ℕ) (line : List ℕ) → sized 8192 ls ws ≡ true → length line ≡ 16
+    → indexOf 16 b ≡ indexOf 16 a → accessRefusal b len ≡ 0
+    → readTold (installBytes 16 8192 ls ws a line) b len ≡ answered (bigEndian (take len (drop (b % 16) line)) ∷ [])
+unfolding readTold installBytes
+installed-reads ls ws a b len line fit e same k =
+    let long : length ls ≡ 8192 = lengths 8192 ls ws refl fit .0 in
+    let inside : b % 16 + len ≤ 16 = allowed b len k .1 in
+    rw (
+      fit,
+      length-paste ls (startOf 16 a) line 16 (omega arith) (omega arith),
+      eq-eqb (length ls) 8192 long,
+      k,
+      same,
+      part-back ls line (startOf 16 a) 16 (b % 16) len (omega arith) e inside,
+    )
 
 -- a stored tag loads back, with the state of a valid line or 0
 pub stored-loads : (size state : ℕ) (ws : List ℕ) (a t : ℕ) → length ws ≡ 512
