@@ -11,3 +11,4 @@ pub mod Cut
 pub mod Answers
 pub mod Unique
 pub mod Keeping
+pub mod Steady

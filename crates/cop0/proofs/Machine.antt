@@ -6,9 +6,9 @@ use Prim.Native.Nat.{ℕ, zero, suc, _+_, _%_, _^_, _<_}
 use native.Mathlib.Omega.{arith}
 use lib.ListN.{getD, set, length, length-set}
 use lib.Seq.{getD-set-other, getD-set-same, set-set, set-comm, lt-length-set}
-use lib.Dec.{leb}
+use lib.Dec.{leb, ltb}
 use borrow.Author.Tests.{lt-ltb, eqb-true, eqb-false}
-use Rattle.bits.specs.Told.{answered}
+use Rattle.bits.specs.Told.{answered, refused}
 use Rattle.bits.specs.Field.{fieldOf, withFieldOf, bit}
 use Rattle.cop0.specs.declared.registers.Cop0.{Cop0}
 use Rattle.cop0.specs.Registers.{Random, Wired, Compare, Cause}
@@ -277,3 +277,13 @@ pub answer-six : (c : Cop0) → Kept c → (n m : ℕ) → n < 2 ^ 32 → advanc
 answer-six c k n m h =
     answer-is c k n m h
     ∙ sym (answer-is (sixBit c) (six-kept c k) n m h ∙ ap (λ (e : ℕ). answered (e ∷ [])) (edges-six c k n h))
+
+-- counts from 2^32 up are refused, and nothing moves
+module _ (c : Cop0) (n m : ℕ) (h : ltb n (2 ^ 32) ≡ false) where
+  pub advance-refused : advanceOf c n m ≡ c
+  unfolding advanceOf
+  advance-refused = rw h
+
+  pub answer-refused : advanceTold c n m ≡ refused 5
+  unfolding advanceTold
+  answer-refused = rw h

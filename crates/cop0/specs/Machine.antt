@@ -8,7 +8,7 @@ use lib.ListN.{length}
 use Rattle.bits.specs.Field.{bit}
 use Rattle.cop0.specs.declared.registers.Cop0.{Cop0}
 use Rattle.cop0.specs.Registers.{Random}
-use Rattle.cop0.specs.Record.{withNow, withReg}
+use Rattle.cop0.specs.Record.{reg, withNow, withReg}
 use Rattle.cop0.specs.Clock.{countOf, compareOf, asked}
 use Rattle.cop0.specs.Random.{randomOf, tickRandomOf}
 use Rattle.cop0.specs.Advance.{raisedIf}
@@ -46,3 +46,8 @@ pub record Kept (c : Cop0) : Type 0 where
   pub clock : c .now < 2 ^ 64
   pub file : length (c .regs) ≡ 32
   pub mark : c .«last_count» ≡ countOf c
+
+-- and whose Random is six bits: what every operation of a session leaves
+pub record Steady (c : Cop0) : Type 0 where
+  pub kept : Kept c
+  pub random : reg c Random < 2 ^ 6

@@ -1,3 +1,5 @@
 pub mod Record
 pub mod Answers
 pub mod Step
+pub mod Run
+pub mod Plain

@@ -49,28 +49,36 @@ toTlb s t = told done (withTlb s t)
 abbrev pub outcome : Stepped → Outcome
 outcome r = told (toldAnswer (r .answer)) (r .session)
 
-abbrev pub stepOf : Op → Session → Outcome
-stepOf (op.Mfc0 n) s = told (number (mfc0Of (s .cop0) n)) s
-stepOf (op.Dmfc0 n) s = told (number (dmfc0Of (s .cop0) n)) s
-stepOf (op.Mtc0 n v) s = toCop0 s (mtc0Of (s .cop0) n v)
-stepOf (op.Dmtc0 n v) s = toCop0 s (dmtc0Of (s .cop0) n v)
-stepOf (op.SetIp b on) s = toCop0 s (setIpOf (s .cop0) b on)
-stepOf op.InterruptPending s = flag (interruptPendingOf (s .cop0)) s
-stepOf (op.Advance n m) s = told (ofCase 7 (advanceTold (s .cop0) n m)) (withCop0 s (advanceOf (s .cop0) n m))
-stepOf op.IsShutdown s = flag (isShutdownOf (s .tlb)) s
-stepOf (op.Entry i) s = told (toldAnswer (answer.Entry (entryAt (s .tlb) (i % 32)))) s
-stepOf (op.PageSize mask) s = told (number (pageSizeOf mask)) s
-stepOf (op.PairSize mask) s = told (number (pairSizeOf mask)) s
-stepOf (op.Lookup v asid store) s =
+-- a rule for advances, and a row for each other operation
+abbrev pub stepBy : (ℕ → ℕ → Session → Outcome) → Op → Session → Outcome
+stepBy advance (op.Mfc0 n) s = told (number (mfc0Of (s .cop0) n)) s
+stepBy advance (op.Dmfc0 n) s = told (number (dmfc0Of (s .cop0) n)) s
+stepBy advance (op.Mtc0 n v) s = toCop0 s (mtc0Of (s .cop0) n v)
+stepBy advance (op.Dmtc0 n v) s = toCop0 s (dmtc0Of (s .cop0) n v)
+stepBy advance (op.SetIp b on) s = toCop0 s (setIpOf (s .cop0) b on)
+stepBy advance op.InterruptPending s = flag (interruptPendingOf (s .cop0)) s
+stepBy advance (op.Advance n m) s = advance n m s
+stepBy advance op.IsShutdown s = flag (isShutdownOf (s .tlb)) s
+stepBy advance (op.Entry i) s = told (toldAnswer (answer.Entry (entryAt (s .tlb) (i % 32)))) s
+stepBy advance (op.PageSize mask) s = told (number (pageSizeOf mask)) s
+stepBy advance (op.PairSize mask) s = told (number (pairSizeOf mask)) s
+stepBy advance (op.Lookup v asid store) s =
     told (ofCase 4 (toldLookup (lookupAnswer (s .tlb) v asid store))) (withTlb s (lookupTable (s .tlb) v asid))
-stepOf (op.WriteEntry i) s = toTlb s (writtenOf (s .tlb) i (s .cop0))
-stepOf (op.ReadEntry i) s = toCop0 s (readEntryOf (s .tlb) i (s .cop0))
-stepOf op.Probe s = toCop0 s (probeOf (s .tlb) (s .cop0))
-stepOf (op.JtlbHasMatch v asid) s = flag (hasMatchOf (s .tlb) v asid) s
-stepOf (op.ItlbProbe v asid) s = flag (probedOf (s .tlb) v asid .hit) (withTlb s (probedOf (s .tlb) v asid .tlb))
-stepOf (op.ItlbFill v asid) s = toTlb s (filledOf (s .tlb) v asid)
-stepOf (op.TranslateVia v asid store a) s =
+stepBy advance (op.WriteEntry i) s = toTlb s (writtenOf (s .tlb) i (s .cop0))
+stepBy advance (op.ReadEntry i) s = toCop0 s (readEntryOf (s .tlb) i (s .cop0))
+stepBy advance op.Probe s = toCop0 s (probeOf (s .tlb) (s .cop0))
+stepBy advance (op.JtlbHasMatch v asid) s = flag (hasMatchOf (s .tlb) v asid) s
+stepBy advance (op.ItlbProbe v asid) s = flag (probedOf (s .tlb) v asid .hit) (withTlb s (probedOf (s .tlb) v asid .tlb))
+stepBy advance (op.ItlbFill v asid) s = toTlb s (filledOf (s .tlb) v asid)
+stepBy advance (op.TranslateVia v asid store a) s =
     told (ofCase 5 (toldTranslate (translateAnswer (s .tlb) v asid store a))) (withTlb s (translateTable (s .tlb) v asid a))
-stepOf (op.Dispatch e pc slot bad) s =
+stepBy advance (op.Dispatch e pc slot bad) s =
     told (toldAnswer (answer.Vector (dispatchOf (s .cop0) e pc slot bad .dispatch))) (withCop0 s (dispatchOf (s .cop0) e pc slot bad .cop0))
-stepOf op.Eret s = told (number (eretOf (s .cop0) .pc)) (withCop0 s (eretOf (s .cop0) .cop0))
+stepBy advance op.Eret s = told (number (eretOf (s .cop0) .pc)) (withCop0 s (eretOf (s .cop0) .cop0))
+
+-- the register file's advance
+abbrev pub advanceBy : ℕ → ℕ → Session → Outcome
+advanceBy n m s = told (ofCase 7 (advanceTold (s .cop0) n m)) (withCop0 s (advanceOf (s .cop0) n m))
+
+abbrev pub stepOf : Op → Session → Outcome
+stepOf o s = stepBy advanceBy o s
