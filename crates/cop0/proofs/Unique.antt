@@ -1,7 +1,13 @@
--- No second outcome fits the contract of any public operation: shown on the contracts as the checker reads them.
+-- No second outcome fits the contract of any public operation: shown on the contracts as the checker reads them. An outcome is
+-- the answer and, where the record was lent, what it is left at.
 use mathlib.Core.Path.{_≡_, ap₂}
 use mathlib.Core.Bool.{Bool}
 use Prim.Native.Nat.{ℕ}
+use base.Logic.{ent, sep, fst∗, snd∗}
+use contract.Lifetimes.{Lfts}
+use contract.Monad.{fact, factI, fact-use}
+use borrow.Fn.World.{World, Pr, ArgsD}
+use denote.Triple.Clauses.{AtExit}
 use Rattle.bits.proofs.Same.{same}
 use Rattle.cop0.specs.declared.registers.Cop0.{Cop0}
 use Rattle.cop0.specs.declared.clock.Polled.{Polled}
@@ -31,6 +37,7 @@ use Rattle.cop0.proofs.registers.Cop0.interrupt_pending.Reads as interr
 use Rattle.cop0.proofs.registers.Cop0.advance.Reads as advance
 use Rattle.cop0.proofs.registers.is_wide.Reads as is-wide
 use Rattle.cop0.proofs.access.Cop0Op.from_rs.Reads as from-rs
+use Rattle.cop0.proofs.in_place.advance_in_place as advance-in-place
 
 abbrev made : AdvanceAnswer → Cop0 → Advanced
 made a c = record { answer = a; cop0 = c }
@@ -105,6 +112,20 @@ advance-unique a r r′ p q =
     ap₂ made
     (advance-one (r .answer) (r′ .answer) (same (p .0) (q .0)))
     (same (p .1) (q .1))
+
+-- the checker makes no plain reading of a lent record's contract: this is its clause itself, at a model of the logic
+abbrev left-at : (w : World) (κs : Lfts 1) (a : ArgsD advance-in-place.signature κs) → ℕ → AtExit advance-in-place.ended κs → Pr w
+left-at w κs a r s =
+    advance-in-place.clauses (w .𝓤) (w .H) (w .𝓖 .A) (w .𝓜 .mem) (w .𝓡 .run) κs a .ensures tt r s
+
+-- at every model: where the clause holds of two outcomes, they are one
+pub advance-in-place-unique : (w : World) (κs : Lfts 1) (a : ArgsD advance-in-place.signature κs) (r r′ : ℕ)
+    (s s′ : AtExit advance-in-place.ended κs)
+    → ent (w .𝓤) (sep (w .𝓤) (left-at w κs a r s) (left-at w κs a r′ s′)) (fact (w .𝓤) ((r ≡ r′) × (s .0 .now ≡ s′ .0 .now)))
+advance-in-place-unique w κs a r r′ s s′ =
+    fact-use (w .𝓤) _ (fst∗ (w .𝓤) (left-at w κs a r s) (left-at w κs a r′ s′)) (λ p.
+    fact-use (w .𝓤) _ (snd∗ (w .𝓤) (left-at w κs a r s) (left-at w κs a r′ s′)) (λ q.
+    factI (w .𝓤) _ _ (same (p .0) (q .0), same (p .1) (q .1))))
 
 pub is-wide-unique : (a : ℕ × Unit {0}) (r r′ : Bool) → is-wide.Post tt a r a → is-wide.Post tt a r′ a → r ≡ r′
 is-wide-unique a r r′ = same

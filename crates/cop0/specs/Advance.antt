@@ -3,6 +3,7 @@ use mathlib.Core.Bool.{Bool, true, false, cond}
 use mathlib.Core.List.{[], _∷_}
 use Prim.Native.Nat.{ℕ, _+_, _%_, _^_}
 use lib.Dec.{ltb}
+use lib.ListN.{getD}
 use Rattle.bits.specs.Field.{bit}
 use Rattle.bits.specs.Told.{Told, answered, refused}
 use Rattle.cop0.specs.declared.registers.Cop0.{Cop0}
@@ -34,3 +35,10 @@ advanceTold c counts steps = cond (ltb counts (2 ^ 32)) (answered (bit (edgeOf (
 unfoldable pub advanceOf : Cop0 → ℕ → ℕ → Cop0
 advanceOf c counts steps =
     cond (ltb counts (2 ^ 32)) (raisedIf (edgeOf (moved c counts steps)) (asked (moved c counts steps))) c
+
+-- the number by which an answer crosses to another language: its value (0 no edge, 1 an edge), or a refusal's own number
+abbrev pub codeOf : Told → ℕ
+codeOf t = getD (t .values) 0 (t .number)
+
+abbrev pub advanceCode : Cop0 → ℕ → ℕ → ℕ
+advanceCode c counts steps = codeOf (advanceTold c counts steps)

@@ -2,6 +2,7 @@
 mod access;
 mod advance;
 mod clock;
+mod in_place;
 mod interrupt;
 mod random;
 mod registers;
@@ -11,5 +12,6 @@ pub use access::FromRs;
 pub use advance::AdvanceAnswer;
 pub use advance::Advanced;
 pub use clock::Polled;
+pub use in_place::advance_in_place;
 pub use registers::Cop0;
 pub use registers::is_wide;
