@@ -43,7 +43,7 @@ access-undone (Refused n) = refl
 pub access-one : (a a′ : AccessAnswer) → toldAccess a ≡ toldAccess a′ → a ≡ a′
 access-one = one-to-one toldAccess (λ (t : Told). accessAt (t .number) (t .values)) access-undone
 
-abbrev cachedAt : ℕ → Cached
+abbrev pub cachedAt : ℕ → Cached
 cachedAt n = cond (eqb n 1) Yes No
 
 cached-undone : (c : Cached) → cachedAt (cachedNumber c) ≡ c
@@ -63,7 +63,7 @@ segment-undone Invalid = refl
 pub segment-one : (g g′ : Segment) → toldSegment g ≡ toldSegment g′ → g ≡ g′
 segment-one = one-to-one toldSegment (λ (t : Told). segmentAt (t .values)) segment-undone
 
-abbrev errorAt : ℕ → TranslateError
+abbrev pub errorAt : ℕ → TranslateError
 errorAt n = cond (eqb n 3) Address (Tlb (faultOf n))
 
 error-undone : (e : TranslateError) → errorAt (errorNumber e) ≡ e
@@ -72,12 +72,12 @@ error-undone (Tlb fault.Refill) = refl
 error-undone (Tlb fault.Invalid) = refl
 error-undone (Tlb fault.Modified) = refl
 
-abbrev translateAt : List ℕ → TranslateAnswer
+abbrev pub translateAt : List ℕ → TranslateAnswer
 translateAt [] = Failed Address
 translateAt (n ∷ []) = Failed (errorAt n)
 translateAt (p ∷ c ∷ vs) = At (record { addr = p; cached = cachedAt c })
 
-translate-undone : (a : TranslateAnswer) → translateAt (toldTranslate a .values) ≡ a
+pub translate-undone : (a : TranslateAnswer) → translateAt (toldTranslate a .values) ≡ a
 translate-undone (At p) = ap (λ (c : Cached). At (record { addr = p .addr; cached = c })) (cached-undone (p .cached))
 translate-undone (Failed e) = ap Failed (error-undone e)
 

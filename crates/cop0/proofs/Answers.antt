@@ -38,11 +38,11 @@ from-rs-undone (Refused n) = refl
 pub from-rs-one : (a a′ : FromRs) → toldFromRs a ≡ toldFromRs a′ → a ≡ a′
 from-rs-one = one-to-one toldFromRs (λ (t : Told). fromRsAt (t .number) (t .values)) from-rs-undone
 
-abbrev advanceAt : ℕ → List ℕ → AdvanceAnswer
+abbrev pub advanceAt : ℕ → List ℕ → AdvanceAnswer
 advanceAt n [] = NoAdvance n
 advanceAt n (v ∷ vs) = Edge (eqb v 1)
 
-advance-undone : (a : AdvanceAnswer) → advanceAt (toldAdvance a .number) (toldAdvance a .values) ≡ a
+pub advance-undone : (a : AdvanceAnswer) → advanceAt (toldAdvance a .number) (toldAdvance a .values) ≡ a
 advance-undone (Edge true) = refl
 advance-undone (Edge false) = refl
 advance-undone (NoAdvance n) = refl

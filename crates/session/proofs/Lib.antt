@@ -1,2 +1,4 @@
+pub mod Answers
+pub mod Unique
 pub mod Keeping
 pub mod Rooms

@@ -22,17 +22,17 @@ fault-undone Refill = refl
 fault-undone Invalid = refl
 fault-undone Modified = refl
 
-abbrev translated : ℕ → Bool → Translated
+abbrev pub translated : ℕ → Bool → Translated
 translated a u = record { addr = a; uncached = u }
 
-abbrev answerOf : List ℕ → LookupAnswer
-answerOf [] = Fault Refill
-answerOf (a ∷ []) = Fault (faultOf a)
-answerOf (a ∷ u ∷ vs) = Found (translated a (eqb u 1))
+abbrev pub lookupAt : List ℕ → LookupAnswer
+lookupAt [] = Fault Refill
+lookupAt (a ∷ []) = Fault (faultOf a)
+lookupAt (a ∷ u ∷ vs) = Found (translated a (eqb u 1))
 
-undone : (a : LookupAnswer) → answerOf (toldLookup a .values) ≡ a
-undone (Found t) = ap (λ (u : Bool). Found (translated (t .addr) u)) (bit-undone (t .uncached))
-undone (Fault f) = ap Fault (fault-undone f)
+pub lookup-undone : (a : LookupAnswer) → lookupAt (toldLookup a .values) ≡ a
+lookup-undone (Found t) = ap (λ (u : Bool). Found (translated (t .addr) u)) (bit-undone (t .uncached))
+lookup-undone (Fault f) = ap Fault (fault-undone f)
 
 pub lookup-one : (a a′ : LookupAnswer) → toldLookup a ≡ toldLookup a′ → a ≡ a′
-lookup-one = one-to-one toldLookup (λ (t : Told). answerOf (t .values)) undone
+lookup-one = one-to-one toldLookup (λ (t : Told). lookupAt (t .values)) lookup-undone
