@@ -1,4 +1,5 @@
 pub mod Answers
 pub mod Unique
 pub mod Keeping
+pub mod Calls
 pub mod Rooms

@@ -67,8 +67,8 @@ impl Session {
     pub fn probe(self) -> Stepped
         ensures { λ r. ⌜ outcome r ≡ stepOf Probe self ⌝ }
     {
-        self.with_cop0(self.tlb.probe(self.cop0))
-            .tells(Answer::Done)
+        let after = self.tlb.probe(self.cop0);
+        self.with_cop0(after).tells(Answer::Done)
     }
 
     // Would a lookup find an entry?

@@ -12,7 +12,9 @@ tells-requires : tie.Need-tells-requires
 tells-requires c κs = search needs
 
 returns : tie.Need-returns
-returns c = rw (c .tells .ensures, c .before .with-cop0 .ensures, c .before .before .before .advance .ensures .0, c .before .before .before .advance .ensures .1)
+returns c =
+    let l = c .before .before .before in
+    rw (c .tells .ensures, c .before .with-cop0 .ensures, l .advance .ensures .0, l .advance .ensures .1)
 
 pub advance-spec : {M : Type 1} → statement M
 advance-spec = tie.close (tie.spec advance-requires with-cop0-requires tells-requires returns)

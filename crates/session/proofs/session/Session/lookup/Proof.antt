@@ -12,7 +12,9 @@ tells-requires : tie.Need-tells-requires
 tells-requires c κs = search needs
 
 returns : tie.Need-returns
-returns c = rw (c .tells .ensures, c .before .with-tlb .ensures, c .before .before .before .lookup .ensures .0, c .before .before .before .lookup .ensures .1)
+returns c =
+    let l = c .before .before .before in
+    rw (c .tells .ensures, c .before .with-tlb .ensures, l .lookup .ensures .0, l .lookup .ensures .1)
 
 pub lookup-spec : {M : Type 1} → statement M
 lookup-spec = tie.close (tie.spec lookup-requires with-tlb-requires tells-requires returns)

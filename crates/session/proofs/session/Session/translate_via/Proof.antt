@@ -12,7 +12,9 @@ tells-requires : tie.Need-tells-requires
 tells-requires c κs = search needs
 
 returns : tie.Need-returns
-returns c = rw (c .tells .ensures, c .before .with-tlb .ensures, c .before .before .before .translate-via .ensures .0, c .before .before .before .translate-via .ensures .1)
+returns c =
+    let l = c .before .before .before in
+    rw (c .tells .ensures, c .before .with-tlb .ensures, l .translate-via .ensures .0, l .translate-via .ensures .1)
 
 pub translate-via-spec : {M : Type 1} → statement M
 translate-via-spec =
