@@ -1,13 +1,12 @@
--- What `step` returns, call after call, is the run: so that what `Rooms` says of runs is said of the code, by its contract alone.
-use mathlib.Core.Path.{_≡_, refl, ap, ap₂, subst, sym, _∙_}
+-- What `step` returns, call after call, is the run: what `Rooms` says of runs is so said of the code, by its contract alone.
+use mathlib.Core.Path.{_≡_, refl, ap, _∙_}
 use mathlib.Core.List.{List, [], _∷_, map}
 use Rattle.bits.specs.Told.{Told}
 use Rattle.session.specs.declared.session.Session.{Session}
 use Rattle.session.specs.declared.session.Stepped.{Stepped}
 use Rattle.session.specs.declared.op.Op.{Op}
-use Rattle.session.specs.Answers.{toldAnswer}
-use Rattle.session.specs.Step.{Outcome, outcome, stepOf}
-use Rattle.session.specs.Run.{Ran, runBy, run}
+use Rattle.session.specs.Step.{Outcome, outcome}
+use Rattle.session.specs.Run.{Ran, preceded, runBy, run}
 use Rattle.session.proofs.session.Session.step.Reads as step
 
 -- results that fit step's contract one after the other, each from the session that the one before handed back
@@ -32,5 +31,5 @@ pub calls-are-the-run : (os : List Op) (s : Session) (rs : List Stepped) → Cal
 unfolding runBy Called left
 calls-are-the-run [] s [] c = refl
 calls-are-the-run (o ∷ os) s (r ∷ rs) (fits, rest) =
-    ap (λ (q : Ran). record { session = q .session; answers = answerOf r ∷ q .answers }) (calls-are-the-run os (r .session) rs rest)
-    ∙ ap (λ (p : Outcome). let q : Ran = run os (p .session) in record { session = q .session; answers = p .answer ∷ q .answers }) fits
+    ap (preceded (answerOf r)) (calls-are-the-run os (r .session) rs rest)
+    ∙ ap (λ (p : Outcome). preceded (p .answer) (run os (p .session))) fits

@@ -1,10 +1,11 @@
--- THE CLOCK IN A ROOM. Members cut the same time into different advances, between the same other operations, and must stay equal.
--- The definitions are in specs/: a run (`Run`), what an operation does (`Step`), the plain machine (`Plain`).
+-- THE CLOCK IN A ROOM. Members cut the same time into different advances, between the same other operations, and must stay
+-- equal. The definitions are in specs/: a run (`Run`), what an operation does (`Step`), the plain machine (`Plain`).
 --
 -- 1. From a fresh session every run keeps what the clock needs: `fresh-run-steady` in `Keeping`.
--- 2. One advance may be cut in pieces with the same totals: `same-session`, `same-before`, `same-after`, `same-edges`, `none-or-one`. No pieces at all, pieces of zero, a cut that falls on
---    Compare and a cut where Count wraps are among the lists of pieces that it speaks of; counts are below 2^32 in all, and steps
---    of Random may be any number, and so any that a u64 holds.
+-- 2. One advance may be cut in pieces with the same totals: `same-session`, `same-before`, `same-after`, `same-edges` and
+--    `none-or-one`. No pieces at all, pieces of zero, a cut that falls on Compare and a cut where Count wraps are among the
+--    lists of pieces that they speak of. Counts are below 2^32 in all; steps of Random may be any number, and so any that a
+--    u64 holds.
 -- 3. Every run is the plain machine's, which moves Count one tick and Random one step at a time: `every-run-is-plain`.
 use mathlib.Core.Path.{_≡_, refl, ap, ap₂, sym, subst, _∙_}
 use mathlib.Core.Bool.{Bool, true, false, cond}
@@ -30,7 +31,7 @@ use Rattle.session.specs.declared.op.Op.the-variants as op
 use Rattle.session.specs.Record.{fresh, withCop0}
 use Rattle.session.specs.Answers.{ofCase}
 use Rattle.session.specs.Step.{Outcome, told, stepBy, advanceBy, stepOf}
-use Rattle.session.specs.Run.{Ran, runBy, run, Parts, inParts, advances, edgesTold, edgesIn}
+use Rattle.session.specs.Run.{Ran, preceded, runBy, run, Parts, inParts, advances, edgesTold, edgesIn}
 use Rattle.session.specs.Plain.{plainAdvance, plainRun}
 use Rattle.session.proofs.Keeping.{step-steady, fresh-run-steady}
 
@@ -82,14 +83,11 @@ run-plain : (os : List Op) (s : Session) → Steady (s .cop0) → run os s ≡ p
 unfolding runBy
 run-plain [] s k = refl
 run-plain (o ∷ os) s k =
-    ap (λ (r : Ran). record { session = r .session; answers = stepOf o s .answer ∷ r .answers })
-    (run-plain os (stepOf o s .session) (step-steady o s k))
-    ∙ ap
-    (λ (p : Outcome). let r : Ran = plainRun os (p .session) in record { session = r .session; answers = p .answer ∷ r .answers })
-    (step-plain o s k)
+    ap (preceded (stepOf o s .answer)) (run-plain os (stepOf o s .session) (step-steady o s k))
+    ∙ ap (λ (p : Outcome). preceded (p .answer) (plainRun os (p .session))) (step-plain o s k)
 
--- THE PLAIN MACHINE: from a fresh session every run ends in its session and gives its answers, of which an advance's is the number
--- of ticks on which Count became Compare
+-- THE PLAIN MACHINE: from a fresh session every run ends in its session and gives its answers, of which an advance's is the
+-- number of ticks on which Count became Compare
 pub every-run-is-plain : (os : List Op) → run os fresh ≡ plainRun os fresh
 every-run-is-plain os = run-plain os fresh fresh-steady
 
@@ -136,9 +134,7 @@ run-joined : (os ps : List Op) (s : Session)
     ≡ record { session = run ps (run os s .session) .session; answers = run os s .answers ++ run ps (run os s .session) .answers }
 unfolding runBy
 run-joined [] ps s = refl
-run-joined (o ∷ os) ps s =
-    ap (λ (r : Ran). record { session = r .session; answers = stepOf o s .answer ∷ r .answers })
-    (run-joined os ps (stepOf o s .session))
+run-joined (o ∷ os) ps s = ap (preceded (stepOf o s .answer)) (run-joined os ps (stepOf o s .session))
 
 -- the parts of a run are the run of the three lists as one
 pub parts-are : (os ps qs : List Op) (s : Session)

@@ -45,55 +45,70 @@ dmfc0-unique a r r′ p q = outcome-one r r′ (same p q)
 pub mtc0-unique : (a : Session × (ℕ × (ℕ × Unit {0}))) (r r′ : Stepped) → mtc0.Post tt a r a → mtc0.Post tt a r′ a → r ≡ r′
 mtc0-unique a r r′ p q = outcome-one r r′ (same p q)
 
-pub dmtc0-unique : (a : Session × (ℕ × (ℕ × Unit {0}))) (r r′ : Stepped) → dmtc0.Post tt a r a → dmtc0.Post tt a r′ a → r ≡ r′
+pub dmtc0-unique : (a : Session × (ℕ × (ℕ × Unit {0}))) (r r′ : Stepped) → dmtc0.Post tt a r a
+    → dmtc0.Post tt a r′ a → r ≡ r′
 dmtc0-unique a r r′ p q = outcome-one r r′ (same p q)
 
-pub set-ip-unique : (a : Session × (ℕ × (Bool × Unit {0}))) (r r′ : Stepped) → set-ip.Post tt a r a → set-ip.Post tt a r′ a → r ≡ r′
+pub set-ip-unique : (a : Session × (ℕ × (Bool × Unit {0}))) (r r′ : Stepped) → set-ip.Post tt a r a
+    → set-ip.Post tt a r′ a → r ≡ r′
 set-ip-unique a r r′ p q = outcome-one r r′ (same p q)
 
-pub interrupt-pending-unique : (a : Session × Unit {0}) (r r′ : Stepped) → interrupt-pending.Post tt a r a → interrupt-pending.Post tt a r′ a → r ≡ r′
+pub interrupt-pending-unique : (a : Session × Unit {0}) (r r′ : Stepped) → interrupt-pending.Post tt a r a
+    → interrupt-pending.Post tt a r′ a → r ≡ r′
 interrupt-pending-unique a r r′ p q = outcome-one r r′ (same p q)
 
-pub advance-unique : (a : Session × (ℕ × (ℕ × Unit {0}))) (r r′ : Stepped) → advance.Post tt a r a → advance.Post tt a r′ a → r ≡ r′
+pub advance-unique : (a : Session × (ℕ × (ℕ × Unit {0}))) (r r′ : Stepped) → advance.Post tt a r a
+    → advance.Post tt a r′ a → r ≡ r′
 advance-unique a r r′ p q = outcome-one r r′ (same p q)
 
-pub is-shutdown-unique : (a : Session × Unit {0}) (r r′ : Stepped) → is-shutdown.Post tt a r a → is-shutdown.Post tt a r′ a → r ≡ r′
+pub is-shutdown-unique : (a : Session × Unit {0}) (r r′ : Stepped) → is-shutdown.Post tt a r a
+    → is-shutdown.Post tt a r′ a → r ≡ r′
 is-shutdown-unique a r r′ p q = outcome-one r r′ (same p q)
 
 pub entry-unique : (a : Session × (ℕ × Unit {0})) (r r′ : Stepped) → entry.Post tt a r a → entry.Post tt a r′ a → r ≡ r′
 entry-unique a r r′ p q = outcome-one r r′ (same p q)
 
-pub page-size-unique : (a : Session × (ℕ × Unit {0})) (r r′ : Stepped) → page-size.Post tt a r a → page-size.Post tt a r′ a → r ≡ r′
+pub page-size-unique : (a : Session × (ℕ × Unit {0})) (r r′ : Stepped) → page-size.Post tt a r a
+    → page-size.Post tt a r′ a → r ≡ r′
 page-size-unique a r r′ p q = outcome-one r r′ (same p q)
 
-pub pair-size-unique : (a : Session × (ℕ × Unit {0})) (r r′ : Stepped) → pair-size.Post tt a r a → pair-size.Post tt a r′ a → r ≡ r′
+pub pair-size-unique : (a : Session × (ℕ × Unit {0})) (r r′ : Stepped) → pair-size.Post tt a r a
+    → pair-size.Post tt a r′ a → r ≡ r′
 pair-size-unique a r r′ p q = outcome-one r r′ (same p q)
 
-pub lookup-unique : (a : Session × (ℕ × (ℕ × (Bool × Unit {0})))) (r r′ : Stepped) → lookup.Post tt a r a → lookup.Post tt a r′ a → r ≡ r′
+pub lookup-unique : (a : Session × (ℕ × (ℕ × (Bool × Unit {0})))) (r r′ : Stepped) → lookup.Post tt a r a
+    → lookup.Post tt a r′ a → r ≡ r′
 lookup-unique a r r′ p q = outcome-one r r′ (same p q)
 
-pub write-entry-unique : (a : Session × (ℕ × Unit {0})) (r r′ : Stepped) → write-entry.Post tt a r a → write-entry.Post tt a r′ a → r ≡ r′
+pub write-entry-unique : (a : Session × (ℕ × Unit {0})) (r r′ : Stepped) → write-entry.Post tt a r a
+    → write-entry.Post tt a r′ a → r ≡ r′
 write-entry-unique a r r′ p q = outcome-one r r′ (same p q)
 
-pub read-entry-unique : (a : Session × (ℕ × Unit {0})) (r r′ : Stepped) → read-entry.Post tt a r a → read-entry.Post tt a r′ a → r ≡ r′
+pub read-entry-unique : (a : Session × (ℕ × Unit {0})) (r r′ : Stepped) → read-entry.Post tt a r a
+    → read-entry.Post tt a r′ a → r ≡ r′
 read-entry-unique a r r′ p q = outcome-one r r′ (same p q)
 
 pub probe-unique : (a : Session × Unit {0}) (r r′ : Stepped) → probe.Post tt a r a → probe.Post tt a r′ a → r ≡ r′
 probe-unique a r r′ p q = outcome-one r r′ (same p q)
 
-pub jtlb-has-match-unique : (a : Session × (ℕ × (ℕ × Unit {0}))) (r r′ : Stepped) → jtlb-has-match.Post tt a r a → jtlb-has-match.Post tt a r′ a → r ≡ r′
+pub jtlb-has-match-unique : (a : Session × (ℕ × (ℕ × Unit {0}))) (r r′ : Stepped) → jtlb-has-match.Post tt a r a
+    → jtlb-has-match.Post tt a r′ a → r ≡ r′
 jtlb-has-match-unique a r r′ p q = outcome-one r r′ (same p q)
 
-pub itlb-probe-unique : (a : Session × (ℕ × (ℕ × Unit {0}))) (r r′ : Stepped) → itlb-probe.Post tt a r a → itlb-probe.Post tt a r′ a → r ≡ r′
+pub itlb-probe-unique : (a : Session × (ℕ × (ℕ × Unit {0}))) (r r′ : Stepped) → itlb-probe.Post tt a r a
+    → itlb-probe.Post tt a r′ a → r ≡ r′
 itlb-probe-unique a r r′ p q = outcome-one r r′ (same p q)
 
-pub itlb-fill-unique : (a : Session × (ℕ × (ℕ × Unit {0}))) (r r′ : Stepped) → itlb-fill.Post tt a r a → itlb-fill.Post tt a r′ a → r ≡ r′
+pub itlb-fill-unique : (a : Session × (ℕ × (ℕ × Unit {0}))) (r r′ : Stepped) → itlb-fill.Post tt a r a
+    → itlb-fill.Post tt a r′ a → r ≡ r′
 itlb-fill-unique a r r′ p q = outcome-one r r′ (same p q)
 
-pub translate-via-unique : (a : Session × (ℕ × (ℕ × (Bool × (Access × Unit {0}))))) (r r′ : Stepped) → translate-via.Post tt a r a → translate-via.Post tt a r′ a → r ≡ r′
+pub translate-via-unique : (a : Session × (ℕ × (ℕ × (Bool × (Access × Unit {0}))))) (r r′ : Stepped) → translate-via.Post tt a r a
+    → translate-via.Post tt a r′ a → r ≡ r′
 translate-via-unique a r r′ p q = outcome-one r r′ (same p q)
 
-pub dispatch-unique : (a : Session × (Exception × (ℕ × (Bool × (ℕ × Unit {0}))))) (r r′ : Stepped) → dispatch.Post tt a r a → dispatch.Post tt a r′ a → r ≡ r′
+pub dispatch-unique : (a : Session × (Exception × (ℕ × (Bool × (ℕ × Unit {0}))))) (r r′ : Stepped) → dispatch.Post tt a r a
+    → dispatch.Post tt a r′ a → r ≡ r′
 dispatch-unique a r r′ p q = outcome-one r r′ (same p q)
 
 pub eret-unique : (a : Session × Unit {0}) (r r′ : Stepped) → eret.Post tt a r a → eret.Post tt a r′ a → r ≡ r′

@@ -16,12 +16,14 @@ pub record Ran : Type 0 where
   pub session : Session
   pub answers : List Told
 
+-- an answer, and then a run
+abbrev pub preceded : Told → Ran → Ran
+preceded a r = record { session = r .session; answers = a ∷ r .answers }
+
 -- each operation by the rule f
 unfoldable pub runBy : (Op → Session → Outcome) → List Op → Session → Ran
 runBy f [] s = record { session = s; answers = [] }
-runBy f (o ∷ os) s =
-    let rest : Ran = runBy f os (f o s .session) in
-    record { session = rest .session; answers = f o s .answer ∷ rest .answers }
+runBy f (o ∷ os) s = preceded (f o s .answer) (runBy f os (f o s .session))
 
 -- as `step` runs them
 abbrev pub run : List Op → Session → Ran

@@ -17,6 +17,7 @@ use Rattle.tlb.specs.Moves.{writtenOf, readEntryOf, probeOf}
 use Rattle.tlb.specs.Micro.{hasMatchOf, probedOf, filledOf}
 use Rattle.addr.specs.Answers.{toldTranslate}
 use Rattle.addr.specs.Translate.{translateAnswer, translateTable}
+use Rattle.exception.specs.declared.epilogue.Dispatched.{Dispatched}
 use Rattle.exception.specs.Taking.{dispatchOf}
 use Rattle.exception.specs.Returning.{eretOf}
 use Rattle.session.specs.declared.session.Session.{Session}
@@ -73,7 +74,8 @@ stepBy advance (op.ItlbFill v asid) s = toTlb s (filledOf (s .tlb) v asid)
 stepBy advance (op.TranslateVia v asid store a) s =
     told (ofCase 5 (toldTranslate (translateAnswer (s .tlb) v asid store a))) (withTlb s (translateTable (s .tlb) v asid a))
 stepBy advance (op.Dispatch e pc slot bad) s =
-    told (toldAnswer (answer.Vector (dispatchOf (s .cop0) e pc slot bad .dispatch))) (withCop0 s (dispatchOf (s .cop0) e pc slot bad .cop0))
+    let r : Dispatched = dispatchOf (s .cop0) e pc slot bad in
+    told (toldAnswer (answer.Vector (r .dispatch))) (withCop0 s (r .cop0))
 stepBy advance op.Eret s = told (number (eretOf (s .cop0) .pc)) (withCop0 s (eretOf (s .cop0) .cop0))
 
 -- the register file's advance
