@@ -12,7 +12,7 @@ use Rattle.bits.specs.Extension.{low32Of}
 use Rattle.bits.proofs.MaskLaws.{merged-none}
 use Rattle.cop0.specs.declared.registers.Cop0.{Cop0}
 use Rattle.cop0.specs.Registers.{Random, Wired, Count, Compare, Cause, among, writeMask}
-use Rattle.cop0.specs.Record.{reg, withReg, withRegs, withEpoch, withLatch, fresh}
+use Rattle.cop0.specs.Record.{reg, withReg, withEpoch, withLatch, fresh}
 use Rattle.cop0.specs.Interrupt.{setIpOf}
 use Rattle.cop0.specs.Clock.{asked}
 use Rattle.cop0.specs.Random.{randomOf}

@@ -1,19 +1,17 @@
 -- What the clock's theorem asks of a record holds in every session that operations have led to from a fresh one: the last-asked
 -- Count is Count, Random is six bits, the clock is below 2^64 and there are 32 registers.
-use mathlib.Core.Path.{_≡_, refl}
-use mathlib.Core.Bool.{Bool, cond}
+use mathlib.Core.Path.{refl}
 use mathlib.Core.List.{List, [], _∷_}
-use Prim.Native.Nat.{ℕ, _%_}
-use lib.Dec.{ltb}
+use Prim.Native.Nat.{ℕ}
 use Rattle.cop0.specs.declared.registers.Cop0.{Cop0}
-use Rattle.cop0.specs.Registers.{Status, among}
+use Rattle.cop0.specs.Registers.{among}
 use Rattle.cop0.specs.Machine.{Steady}
 use Rattle.cop0.specs.Only.{Only}
 use Rattle.cop0.proofs.Hardware.{only-none, only-set}
 use Rattle.cop0.proofs.Steady.{fresh-steady, set-ip-steady, dmtc0-steady, advance-steady, only-steady}
 use Rattle.tlb.specs.declared.table.Tlb.{Tlb}
 use Rattle.tlb.specs.Moves.{Index, EntryLo0, EntryLo1, PageMask, EntryHi, readEntryOf, probeOf}
-use Rattle.exception.proofs.Untouched.{touched, dispatch-only, eret-only}
+use Rattle.exception.proofs.Untouched.{dispatch-only, eret-only}
 use Rattle.session.specs.declared.session.Session.{Session}
 use Rattle.session.specs.declared.op.Op.{Op}
 use Rattle.session.specs.declared.op.Op.the-variants as op

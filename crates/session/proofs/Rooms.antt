@@ -14,7 +14,6 @@ use Prim.Native.Nat.{ℕ, _+_, _^_, _<_, _≤_}
 use native.Mathlib.Nat.{add-zero}
 use native.Mathlib.Omega.{arith}
 use lib.Dec.{T, ltb, ltb→lt}
-use borrow.Author.Tests.{lt-ltb}
 use Rattle.bits.specs.Field.{bit}
 use Rattle.bits.specs.Told.{Told, answered, refused}
 use Rattle.cop0.specs.declared.registers.Cop0.{Cop0}

@@ -9,7 +9,6 @@ use Rattle.tlb.specs.declared.entries.PageEntry.{PageEntry}
 use Rattle.tlb.specs.declared.entries.Entry.{Entry}
 use Rattle.tlb.specs.Entries.{toldLookup}
 use Rattle.addr.specs.Answers.{toldTranslate}
-use Rattle.exception.specs.declared.epilogue.Dispatch.{Dispatch}
 use Rattle.session.specs.declared.op.Answer.{Answer}
 use Rattle.session.specs.declared.op.Answer.the-variants as answer
 
