@@ -1,8 +1,8 @@
 -- The data cache: 512 lines of 16 bytes, written back; a valid line has PState 3 (11.2, figure 5-19).
 use mathlib.Core.Bool.{Bool, true, _&&_, not, cond}
 use mathlib.Core.List.{List, [], _∷_}
-use Prim.Native.Nat.{ℕ, _+_, _%_}
-use lib.Dec.{eqb, leb}
+use Prim.Native.Nat.{ℕ}
+use lib.Dec.{eqb}
 use lib.ListN.{length, take, drop, replicate}
 use lib.Seq.{paste}
 use Rattle.bits.specs.Told.{Told, answered, refused}
@@ -36,6 +36,7 @@ plannedOf w a start =
 unfoldable pub planTold : List ℕ → List ℕ → ℕ → Told
 planTold ls ws a = cond (fits ls ws) (plannedOf (word ws a) a (startOf 16 a)) (refused 1)
 
+-- a line that must leave first
 unfoldable pub evictsOf : ℕ → ℕ → Bool
 evictsOf w a = not (hitOf w a) && leavesOf w
 

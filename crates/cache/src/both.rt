@@ -1,6 +1,5 @@
 // What both caches do alike: over the size of a line, the bytes of all lines and the PState of a valid line.
 ghost use mathlib.Core.Path.{_≡_};
-ghost use mathlib.Core.Bool.{Bool};
 ghost use Prim.Native.Nat.{_*_, _≤_};
 ghost use lib.ListN.{length};
 ghost use Rattle.cache.specs.Answers.{toldDone, toldAsked, toldValue, toldWriteback};

@@ -1,6 +1,5 @@
 // The data cache: 8 KiB in 512 lines of 16 bytes, written back.
 ghost use mathlib.Core.Path.{_≡_};
-ghost use mathlib.Core.Bool.{Bool};
 ghost use Prim.Native.Nat.{_+_, _*_, _%_, _≤_};
 ghost use lib.ListN.{length, replicate};
 ghost use Rattle.bits.specs.Told.{refused};
@@ -136,12 +135,8 @@ pub fn flush_index(
     if both::are_sized(lines, tags, BYTES) {
         let old = tag_array::word_for(tags, addr, 16);
         tag_array::replace(tags, addr, 16, tag_word::flushed(old, invalidate, clean));
-        return writeback(
-            lines,
-            old,
-            tag_array::start(addr, 16),
-            tag_word::leaves(old),
-        );
+        let start = tag_array::start(addr, 16);
+        return writeback(lines, old, start, tag_word::leaves(old));
     }
     refused_writeback()
 }
@@ -156,12 +151,8 @@ pub fn create_dirty_exclusive(lines: &[u8], tags: &mut [u32], addr: u32) -> Data
     if both::are_sized(lines, tags, BYTES) {
         let old = tag_array::word_for(tags, addr, 16);
         tag_array::replace(tags, addr, 16, tag_word::taken(addr, true));
-        return writeback(
-            lines,
-            old,
-            tag_array::start(addr, 16),
-            tag_word::displaced(old, addr),
-        );
+        let start = tag_array::start(addr, 16);
+        return writeback(lines, old, start, tag_word::displaced(old, addr));
     }
     refused_writeback()
 }
@@ -174,6 +165,7 @@ pub fn resident_addr(tags: &[u32], index: usize) -> Value
     both::resident_addr(tags, i, i * 16)
 }
 
+// A hit, a fill, or a line that must leave first, with its own address.
 fn planned(word: u32, addr: u32, start: usize) -> PlanAnswer
     ensures { λ r. ⌜ toldPlan r ≡ plannedOf word addr start ⌝ }
 {

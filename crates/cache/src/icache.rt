@@ -109,12 +109,8 @@ pub fn flush_hit(lines: &[u8], tags: &[u32], addr: u32) -> InstructionWriteback
 {
     if both::are_sized(lines, tags, BYTES) {
         let word = tag_array::word_for(tags, addr, 32);
-        return writeback(
-            lines,
-            word,
-            tag_array::start(addr, 32),
-            tag_word::is_hit(word, addr),
-        );
+        let start = tag_array::start(addr, 32);
+        return writeback(lines, word, start, tag_word::is_hit(word, addr));
     }
     refused_writeback()
 }

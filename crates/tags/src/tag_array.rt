@@ -1,6 +1,6 @@
 // The lent array of tag words: the word of a line and its replacement, over the size of a line.
 ghost use mathlib.Core.Path.{_≡_};
-ghost use lib.ListN.{length, set, replicate};
+ghost use lib.ListN.{length, replicate};
 ghost use Rattle.tags.specs.Places.{tagged, indexOf, startOf, wordAt, wordFor, tagsWith};
 
 // Lines of either cache.

@@ -1,7 +1,7 @@
 // Tag words: bits 19..0 are the tag, which is the physical frame number, bit 20 is valid, and bit 21, of the data cache alone, is
 // dirty.
 ghost use mathlib.Core.Path.{_≡_};
-ghost use mathlib.Core.Bool.{Bool, true};
+ghost use mathlib.Core.Bool.{true};
 ghost use Prim.Native.Nat.{_<_, _^_};
 ghost use Rattle.tags.specs.Words.{tagOf, wordTag, isValid, isDirty, wordOf, hitOf, leavesOf, displacedOf, flushedWord, tagLoOf, storedOf, invalidated};
 ghost use Rattle.tags.specs.Places.{residentOf};
@@ -91,11 +91,8 @@ pub fn tag_lo(word: u32, state: u8) -> u32
 pub fn stored(tag_lo: u32, state: u8) -> u32
     ensures { λ r. ⌜ r ≡ storedOf state «tag_lo» ⌝ }
 {
-    word(
-        tag_lo / 256 % 0x10_0000,
-        tag_lo / 64 % 4 == state as u32,
-        false,
-    )
+    let is_valid = tag_lo / 64 % 4 == state as u32;
+    word(tag_lo / 256 % 0x10_0000, is_valid, false)
 }
 
 // The tag of an address: bits 31..12.
