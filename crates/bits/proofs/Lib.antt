@@ -4,3 +4,4 @@ pub mod MaskLaws
 pub mod UnderLaws
 pub mod Unique
 pub mod Tables
+pub mod Clearing

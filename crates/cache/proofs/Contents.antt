@@ -11,13 +11,15 @@ use lib.Seq.{length-take-le, paste, length-paste, take-all, take-append-le, drop
 use borrow.Author.Tests.{eq-eqb, eqb-true}
 use Rattle.bits.specs.Field.{fieldOf}
 use Rattle.bits.specs.Told.{answered}
-use Rattle.cache.specs.Tags.{tagOf, wordOf, storedOf}
-use Rattle.cache.specs.Lines.{indexOf, startOf, placeOf}
-use Rattle.cache.specs.Bytes.{bigEndian, eight, bytesOf}
+use Rattle.tags.specs.Words.{tagOf, wordOf, storedOf}
+use Rattle.tags.specs.Places.{indexOf, startOf, placeOf}
+use Rattle.lines.specs.Access.{accessRefusal}
+use Rattle.lines.specs.Bytes.{bigEndian, eight, bytesOf}
 use Rattle.cache.specs.Both.{sized, hitsTold, loadTold, storeTags, installBytes, installTags}
-use Rattle.cache.specs.Data.{fits, accessRefusal, readTold, writes, writeBytes, flushTags}
-use Rattle.cache.proofs.TagLaws.{hit-back, tag-lo-back}
-use Rattle.cache.proofs.PartLaws.{both, lengths, allowed}
+use Rattle.cache.specs.Data.{fits, readTold, writes, writeBytes, flushTags}
+use Rattle.lines.proofs.AccessLaws.{allowed}
+use Rattle.tags.proofs.WordLaws.{hit-back, tag-lo-back}
+use Rattle.cache.proofs.PartLaws.{both, lengths}
 
 -- n elements copied to a place are there
 pub copied-back : (d s : List ℕ) (at n : ℕ) → at ≤ length d → length s ≡ n → take n (drop at (paste d at s n)) ≡ s

@@ -1,5 +1,3 @@
-pub mod TagLaws
-pub mod ByteLaws
 pub mod PartLaws
 pub mod Contents
 pub mod OneToOne

@@ -1,14 +1,16 @@
--- The lengths of the lent parts, and of an access.
+-- The lengths of the lent parts.
 use mathlib.Core.Path.{_≡_, refl, sym, _∙_}
-use mathlib.Core.Bool.{Bool, true, false, _&&_, cond}
+use mathlib.Core.Bool.{Bool, true, false, _&&_}
 use mathlib.Core.List.{List}
-use Prim.Native.Nat.{ℕ, _+_, _%_, _<_, _≤_}
+use Prim.Native.Nat.{ℕ, _+_, _*_, _≤_}
+use native.Mathlib.Nat.{suc-mul, mul-le-mul-right}
+use native.Mathlib.Numerals.{add-one}
 use native.Mathlib.Omega.{arith}
-use lib.Dec.{eqb, leb}
+use lib.Dec.{eqb}
 use lib.ListN.{length}
-use borrow.Author.Tests.{eqb-true, leb-true, le-leb, lt-leb}
+use borrow.Author.Tests.{eqb-true}
+use Rattle.tags.specs.Places.{indexOf, startOf}
 use Rattle.cache.specs.Both.{sized}
-use Rattle.cache.specs.Data.{accessRefusal}
 
 pub both : (a b : Bool) → (a && b) ≡ true → (a ≡ true) × (b ≡ true)
 both true b e = (refl, e)
@@ -21,32 +23,9 @@ lengths bytes ls ws e t =
     let p = both (eqb (length ls) bytes) (eqb (length ws) 512) (sym e ∙ t) in
     (eqb-true _ _ (p .0), eqb-true _ _ (p .1))
 
--- the tests of an access, in their order
-module _ (a len : ℕ) where
-  pub too-short : len < 1 → accessRefusal a len ≡ 2
-  unfolding accessRefusal
-  too-short h = rw (lt-leb 1 len h)
-
-  pub too-long : 1 ≤ len → 8 < len → accessRefusal a len ≡ 2
-  unfolding accessRefusal
-  too-long h k = rw (le-leb 1 len h, lt-leb len 8 k)
-
-  pub past-the-line : 1 ≤ len → len ≤ 8 → 16 < a % 16 + len → accessRefusal a len ≡ 3
-  unfolding accessRefusal
-  past-the-line h k l = rw (le-leb 1 len h, le-leb len 8 k, lt-leb (a % 16 + len) 16 l)
-
-  pub not-refused : 1 ≤ len → len ≤ 8 → a % 16 + len ≤ 16 → accessRefusal a len ≡ 0
-  unfolding accessRefusal
-  not-refused h k l = rw (le-leb 1 len h, le-leb len 8 k, le-leb (a % 16 + len) 16 l)
-
-  -- an access that is not refused has at most eight bytes, within its line
-  pub allowed : accessRefusal a len ≡ 0 → (len ≤ 8) × (a % 16 + len ≤ 16)
-  unfolding accessRefusal
-  allowed e = go (leb 1 len) (leb len 8) (leb (a % 16 + len) 16) refl refl e
-    where
-      go : (x y z : Bool) → leb len 8 ≡ y → leb (a % 16 + len) 16 ≡ z
-          → _≡_ {A = ℕ} (cond (x && y) (cond z 0 3) 2) 0 → (len ≤ 8) × (a % 16 + len ≤ 16)
-      go true true true p q e = (leb-true len 8 p, leb-true (a % 16 + len) 16 q)
-      go true true false p q e = absurd (omega arith)
-      go true false z p q e = absurd (omega arith)
-      go false y z p q e = absurd (omega arith)
+-- a line is within 512 of its size
+pub line-inside : (size a : ℕ) → startOf size a + size ≤ 512 * size
+line-inside size a =
+    let i : ℕ = indexOf size a in
+    let up : (i + 1) * size ≤ 512 * size = mul-le-mul-right size (omega arith) in
+    rw (← suc-mul i size, ← add-one i) up

@@ -1,23 +1,16 @@
--- What both caches do with their tags, over the size of a line and the PState of a valid one. Refusal 1: a lent part has the wrong
+-- What both caches do alike, over the size of a line and the PState of a valid one. Refusal 1: a lent part has the wrong
 -- length, and nothing changes.
 use mathlib.Core.Bool.{Bool, true, false, _&&_, cond}
 use mathlib.Core.List.{List, [], _∷_}
 use Prim.Native.Nat.{ℕ}
 use lib.Dec.{eqb}
-use lib.ListN.{length, set, replicate}
+use lib.ListN.{length, replicate}
 use lib.Seq.{paste}
 use Rattle.bits.specs.Field.{bit}
 use Rattle.bits.specs.Told.{Told, answered, refused}
+use Rattle.tags.specs.Words.{tagOf, wordOf, hitOf, tagLoOf, storedOf}
+use Rattle.tags.specs.Places.{tagged, startOf, wordAt, wordFor, tagsWith, residentOf}
 use Rattle.cache.specs.Answers.{nothing}
-use Rattle.cache.specs.Tags.{tagOf, wordOf, hitOf, tagLoOf, storedOf}
-use Rattle.cache.specs.Lines.{indexOf, startOf, wordAt, residentOf}
-
--- the tag array has 512 words
-abbrev pub tagged : List ℕ → Bool
-tagged ws = eqb (length ws) 512
-
-abbrev pub wordFor : ℕ → List ℕ → ℕ → ℕ
-wordFor size ws a = wordAt ws (indexOf size a)
 
 unfoldable pub hitsTold : ℕ → List ℕ → ℕ → Told
 hitsTold size ws a = cond (tagged ws) (answered (bit (hitOf (wordFor size ws a) a) ∷ [])) (refused 1)
@@ -32,10 +25,6 @@ residentTold ws i start = cond (tagged ws) (answered (residentOf (wordAt ws i) s
 -- an operation on tags alone
 unfoldable pub tagsTold : List ℕ → Told
 tagsTold ws = cond (tagged ws) nothing (refused 1)
-
--- the line's word replaced, and all others as they were
-abbrev pub tagsWith : ℕ → List ℕ → ℕ → ℕ → List ℕ
-tagsWith size ws a w = set ws (indexOf size a) w
 
 unfoldable pub storeTags : ℕ → ℕ → List ℕ → ℕ → ℕ → List ℕ
 storeTags size state ws a t = cond (tagged ws) (tagsWith size ws a (storedOf state t)) ws
@@ -58,3 +47,7 @@ installBytes size bytes ls ws a line = cond (sized bytes ls ws) (paste ls (start
 
 unfoldable pub installTags : ℕ → ℕ → List ℕ → List ℕ → ℕ → List ℕ
 installTags size bytes ls ws a = cond (sized bytes ls ws) (tagsWith size ws a (wordOf (tagOf a) true false)) ws
+
+-- the address that a line with this word and start is written back to, if it goes
+abbrev pub evictedIf : Bool → ℕ → ℕ → Told
+evictedIf b w start = cond b (answered (1 ∷ residentOf w start ∷ [])) nothing

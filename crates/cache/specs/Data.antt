@@ -1,16 +1,17 @@
 -- The data cache: 512 lines of 16 bytes, written back; a valid line has PState 3 (11.2, figure 5-19).
-use mathlib.Core.Bool.{Bool, true, false, _&&_, not, cond}
+use mathlib.Core.Bool.{Bool, true, _&&_, not, cond}
 use mathlib.Core.List.{List, [], _∷_}
-use Prim.Native.Nat.{ℕ, _+_, _%_}
-use lib.Dec.{eqb, leb}
+use Prim.Native.Nat.{ℕ}
+use lib.Dec.{eqb}
 use lib.ListN.{length, take, drop, replicate}
 use lib.Seq.{paste}
 use Rattle.bits.specs.Told.{Told, answered, refused}
+use Rattle.tags.specs.Words.{tagOf, wordTag, isValid, wordOf, hitOf, leavesOf, displacedOf, flushedWord}
+use Rattle.tags.specs.Places.{startOf, placeOf, wordFor, tagsWith, residentOf}
+use Rattle.lines.specs.Access.{accessRefusal}
+use Rattle.lines.specs.Bytes.{bigEndian, bytesOf}
 use Rattle.cache.specs.Answers.{nothing}
-use Rattle.cache.specs.Tags.{tagOf, wordTag, isValid, wordOf, hitOf, leavesOf, invalidated}
-use Rattle.cache.specs.Lines.{startOf, placeOf, residentOf}
-use Rattle.cache.specs.Bytes.{bigEndian, bytesOf}
-use Rattle.cache.specs.Both.{sized, wordFor, tagsWith}
+use Rattle.cache.specs.Both.{sized, evictedIf}
 
 abbrev pub fits : List ℕ → List ℕ → Bool
 fits ls ws = sized 8192 ls ws
@@ -18,11 +19,7 @@ fits ls ws = sized 8192 ls ws
 abbrev pub word : List ℕ → ℕ → ℕ
 word ws a = wordFor 16 ws a
 
--- the address that a line with this word and start is written back to, if it leaves
-abbrev pub evictedIf : Bool → ℕ → ℕ → Told
-evictedIf b w start = cond b (answered (1 ∷ residentOf w start ∷ [])) nothing
-
--- and its bytes; zeros where there is none
+-- the bytes of a line that leaves; zeros where none does
 abbrev pub bytesIf : Bool → List ℕ → ℕ → List ℕ
 bytesIf b ls start = cond b (take 16 (drop start ls)) (replicate 16 0)
 
@@ -30,20 +27,21 @@ abbrev pub leaves : List ℕ → ℕ → Bool
 leaves ws a = leavesOf (word ws a)
 
 -- a hit is 0, a fill 1, and a line that leaves first 2 with its address
+unfoldable pub plannedOf : ℕ → ℕ → ℕ → Told
+plannedOf w a start =
+    cond (hitOf w a) (answered (0 ∷ []))
+    (cond (leavesOf w) (answered (2 ∷ residentOf w start ∷ []))
+    (answered (1 ∷ [])))
+
 unfoldable pub planTold : List ℕ → List ℕ → ℕ → Told
-planTold ls ws a =
-    cond (fits ls ws)
-    (cond (hitOf (word ws a) a) (answered (0 ∷ []))
-    (cond (leaves ws a) (answered (2 ∷ residentOf (word ws a) (startOf 16 a) ∷ []))
-    (answered (1 ∷ []))))
-    (refused 1)
+planTold ls ws a = cond (fits ls ws) (plannedOf (word ws a) a (startOf 16 a)) (refused 1)
+
+-- a line that must leave first
+unfoldable pub evictsOf : ℕ → ℕ → Bool
+evictsOf w a = not (hitOf w a) && leavesOf w
 
 unfoldable pub planBytes : List ℕ → List ℕ → ℕ → List ℕ
-planBytes ls ws a = bytesIf (fits ls ws && (not (hitOf (word ws a) a) && leaves ws a)) ls (startOf 16 a)
-
--- refusals 2 and 3: a length of 0 or over 8; offset + length over 16. 0 where there is none
-unfoldable pub accessRefusal : ℕ → ℕ → ℕ
-accessRefusal a len = cond (leb 1 len && leb len 8) (cond (leb (a % 16 + len) 16) 0 3) 2
+planBytes ls ws a = bytesIf (fits ls ws && evictsOf (word ws a) a) ls (startOf 16 a)
 
 -- the first refusal of those that apply, else an answer
 abbrev pub accessed : Bool → ℕ → Told → Told
@@ -75,17 +73,11 @@ flushTold ls ws a = cond (fits ls ws) (evictedIf (leaves ws a) (word ws a) (star
 unfoldable pub flushBytes : List ℕ → List ℕ → ℕ → List ℕ
 flushBytes ls ws a = bytesIf (fits ls ws && leaves ws a) ls (startOf 16 a)
 
-abbrev pub flushedWord : ℕ → Bool → Bool → ℕ
-flushedWord w invalidate clean = cond invalidate (invalidated w) (cond clean (wordOf (wordTag w) (isValid w) false) w)
-
 -- a word that stands is stored as it was: with both flags off nothing changes
 unfoldable pub flushTags : List ℕ → List ℕ → ℕ → Bool → Bool → List ℕ
 flushTags ls ws a invalidate clean = cond (fits ls ws) (tagsWith 16 ws a (flushedWord (word ws a) invalidate clean)) ws
 
 -- a line that leaves for another address
-unfoldable pub displacedOf : ℕ → ℕ → Bool
-displacedOf w a = leavesOf w && not (eqb (wordTag w) (tagOf a))
-
 abbrev pub displaced : List ℕ → ℕ → Bool
 displaced ws a = displacedOf (word ws a) a
 

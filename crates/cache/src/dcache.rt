@@ -1,11 +1,11 @@
 // The data cache: 8 KiB in 512 lines of 16 bytes, written back.
 ghost use mathlib.Core.Path.{_≡_};
-ghost use mathlib.Core.Bool.{Bool};
 ghost use Prim.Native.Nat.{_+_, _*_, _%_, _≤_};
 ghost use lib.ListN.{length, replicate};
+ghost use Rattle.bits.specs.Told.{refused};
 ghost use Rattle.cache.specs.Answers.{toldDone, toldAsked, toldValue, toldPlan, toldWriteback};
-ghost use Rattle.cache.specs.Both.{hitsTold, loadTold, residentTold, tagsTold, storeTags, bothTold, freshPart, installBytes, installTags};
-ghost use Rattle.cache.specs.Data.{evictedIf, bytesIf, planTold, planBytes, accessRefusal, readTold, writeTold, writeBytes, writeTags, flushTold, flushBytes, flushedWord, flushTags, displacedOf, createTold, createBytes, createTags};
+ghost use Rattle.cache.specs.Both.{hitsTold, loadTold, residentTold, tagsTold, storeTags, bothTold, freshPart, installBytes, installTags, evictedIf};
+ghost use Rattle.cache.specs.Data.{bytesIf, plannedOf, evictsOf, planTold, planBytes, readTold, writeTold, writeBytes, writeTags, flushTold, flushBytes, flushTags, createTold, createBytes, createTags};
 use crate::answers::Asked;
 use crate::answers::DataWriteback;
 use crate::answers::Done;
@@ -13,16 +13,17 @@ use crate::answers::MissPlan;
 use crate::answers::PlanAnswer;
 use crate::answers::Value;
 use crate::answers::WritebackAnswer;
-use crate::bytes;
-use crate::parts;
-use crate::tag_array;
-use crate::tag_word;
+use crate::both;
+use lines::access;
+use lines::bytes;
+use tags::tag_array;
+use tags::tag_word;
 
 // All its bytes.
 const BYTES: usize = 8192;
 
 // PState of a valid line.
-const VALID_STATE: u32 = 3;
+const VALID_STATE: u8 = 3;
 
 // A cache with every line invalid: what is lent is zeroed.
 pub fn new(lines: &mut [u8], tags: &mut [u32]) -> Done
@@ -30,14 +31,14 @@ pub fn new(lines: &mut [u8], tags: &mut [u32]) -> Done
         × (now (lines .exit) ≡ freshPart 8192 (now (lines .entry)) (now (tags .entry)) (now (lines .entry)))
         × (now (tags .exit) ≡ freshPart 8192 (now (lines .entry)) (now (tags .entry)) (now (tags .entry))) ⌝ }
 {
-    parts::fresh(lines, tags, BYTES)
+    both::fresh(lines, tags, BYTES)
 }
 
 // Does the address hit a valid line?
 pub fn hits(tags: &[u32], addr: u32) -> Asked
     ensures { λ r. ⌜ toldAsked r ≡ hitsTold 16 (now (tags .entry)) addr ⌝ }
 {
-    tag_array::hits(tags, addr, 16)
+    both::hits(tags, addr, 16)
 }
 
 // What must be done before the line of an address can be accessed. A dirty line goes to the address that it came from, and not
@@ -46,21 +47,18 @@ pub fn miss_plan(lines: &[u8], tags: &[u32], addr: u32) -> MissPlan
     ensures { λ r. ⌜ (toldPlan (r .answer) ≡ planTold (now (lines .entry)) (now (tags .entry)) addr)
         × (r .«data» ≡ planBytes (now (lines .entry)) (now (tags .entry)) addr) ⌝ }
 {
-    if parts::are_sized(lines, tags, BYTES) {
-        let i = tag_array::index(addr, 16);
-        let word = tags[i];
-        if tag_word::is_hit(word, addr) {
-            return plan(PlanAnswer::Hit);
-        }
-        if tag_word::leaves(word) {
-            return MissPlan {
-                answer: PlanAnswer::Evict(tag_word::resident(word, i * 16)),
-                data: bytes::line16(lines, i * 16),
-            };
-        }
-        return plan(PlanAnswer::Fill);
+    if both::are_sized(lines, tags, BYTES) {
+        let word = tag_array::word_for(tags, addr, 16);
+        let start = tag_array::start(addr, 16);
+        return MissPlan {
+            answer: planned(word, addr, start),
+            data: bytes::line16(lines, start, evicts(word, addr)),
+        };
     }
-    plan(PlanAnswer::Refused(1))
+    MissPlan {
+        answer: PlanAnswer::Refused(1),
+        data: [0; 16],
+    }
 }
 
 // Puts a line that was read from memory into its place.
@@ -69,13 +67,7 @@ pub fn install(lines: &mut [u8], tags: &mut [u32], addr: u32, line: [u8; 16]) ->
         × (now (lines .exit) ≡ installBytes 16 8192 (now (lines .entry)) (now (tags .entry)) addr line)
         × (now (tags .exit) ≡ installTags 16 8192 (now (lines .entry)) (now (tags .entry)) addr) ⌝ }
 {
-    if parts::are_sized(lines, tags, BYTES) {
-        let i = tag_array::index(addr, 16);
-        bytes::copy(lines, i * 16, &line);
-        tags[i] = tag_word::word(tag_word::tag_of(addr), true, false);
-        return Done::Done;
-    }
-    Done::Refused(1)
+    both::install(lines, tags, addr, &line, 16, BYTES)
 }
 
 // `len` bytes at an address, the highest first. The caller has made the line resident: no hit is tested.
@@ -85,12 +77,12 @@ pub fn read(lines: &[u8], addr: u32, len: usize) -> Value
     if lines.len() != BYTES {
         return Value::Refused(1);
     }
-    let refusal = access_refusal(addr, len);
+    let refusal = access::refusal(addr, len);
     if refusal != 0 {
         return Value::Refused(refusal);
     }
-    let at = tag_array::index(addr, 16) * 16 + (addr % 16) as usize;
-    Value::Of(bytes::big_endian(&lines[at..at + len]))
+    let at = tag_array::start(addr, 16) + (addr % 16) as usize;
+    Value::Of(bytes::big_endian(lines, at, len))
 }
 
 // The low `len` bytes of a value go to an address, and the line is dirty then, valid or not.
@@ -99,15 +91,15 @@ pub fn write(lines: &mut [u8], tags: &mut [u32], addr: u32, len: usize, value: u
         × (now (lines .exit) ≡ writeBytes (now (lines .entry)) (now (tags .entry)) addr len value)
         × (now (tags .exit) ≡ writeTags (now (lines .entry)) (now (tags .entry)) addr len) ⌝ }
 {
-    if parts::are_sized(lines, tags, BYTES) {
-        let refusal = access_refusal(addr, len);
+    if both::are_sized(lines, tags, BYTES) {
+        let refusal = access::refusal(addr, len);
         if refusal != 0 {
             return Done::Refused(refusal);
         }
-        let i = tag_array::index(addr, 16);
-        bytes::put_big_endian(lines, i * 16 + (addr % 16) as usize, len, value);
-        let old = tags[i];
-        tags[i] = tag_word::word(tag_word::tag(old), tag_word::valid(old), true);
+        let place = tag_array::start(addr, 16) + (addr % 16) as usize;
+        bytes::put_big_endian(lines, place, len, value);
+        let old = tag_array::word_for(tags, addr, 16);
+        tag_array::replace(tags, addr, 16, tag_word::marked(old, true));
         return Done::Done;
     }
     Done::Refused(1)
@@ -117,14 +109,14 @@ pub fn write(lines: &mut [u8], tags: &mut [u32], addr: u32, len: usize, value: u
 pub fn load_tag(tags: &[u32], addr: u32) -> Value
     ensures { λ r. ⌜ toldValue r ≡ loadTold 16 3 (now (tags .entry)) addr ⌝ }
 {
-    tag_array::load_tag(tags, addr, 16, VALID_STATE)
+    both::load_tag(tags, addr, 16, VALID_STATE)
 }
 
 // `Index_Store_Tag`: the line is clean then.
 pub fn store_tag(tags: &mut [u32], addr: u32, tag_lo: u32) -> Done
     ensures { λ r. ⌜ (toldDone r ≡ tagsTold (now (tags .entry))) × (now (tags .exit) ≡ storeTags 16 3 (now (tags .entry)) addr «tag_lo») ⌝ }
 {
-    tag_array::store_tag(tags, addr, tag_lo, 16, VALID_STATE)
+    both::store_tag(tags, addr, tag_lo, 16, VALID_STATE)
 }
 
 // Takes the line for write-back, if it is dirty. `clean` clears the dirty flag and leaves the line resident; `invalidate` clears
@@ -140,13 +132,13 @@ pub fn flush_index(
         × (r .«data» ≡ flushBytes (now (lines .entry)) (now (tags .entry)) addr)
         × (now (tags .exit) ≡ flushTags (now (lines .entry)) (now (tags .entry)) addr invalidate clean) ⌝ }
 {
-    if parts::are_sized(lines, tags, BYTES) {
-        let i = tag_array::index(addr, 16);
-        let old = tags[i];
-        tags[i] = flushed(old, invalidate, clean);
-        return writeback(lines, old, i * 16, tag_word::leaves(old));
+    if both::are_sized(lines, tags, BYTES) {
+        let old = tag_array::word_for(tags, addr, 16);
+        tag_array::replace(tags, addr, 16, tag_word::flushed(old, invalidate, clean));
+        let start = tag_array::start(addr, 16);
+        return writeback(lines, old, start, tag_word::leaves(old));
     }
-    no_writeback(WritebackAnswer::Refused(1))
+    refused_writeback()
 }
 
 // `Create_Dirty_Exclusive`: claims the line without filling it, for a caller that is about to write all of it. The bytes that
@@ -156,13 +148,13 @@ pub fn create_dirty_exclusive(lines: &[u8], tags: &mut [u32], addr: u32) -> Data
         × (r .«data» ≡ createBytes (now (lines .entry)) (now (tags .entry)) addr)
         × (now (tags .exit) ≡ createTags (now (lines .entry)) (now (tags .entry)) addr) ⌝ }
 {
-    if parts::are_sized(lines, tags, BYTES) {
-        let i = tag_array::index(addr, 16);
-        let old = tags[i];
-        tags[i] = tag_word::word(tag_word::tag_of(addr), true, true);
-        return writeback(lines, old, i * 16, displaced(old, addr));
+    if both::are_sized(lines, tags, BYTES) {
+        let old = tag_array::word_for(tags, addr, 16);
+        tag_array::replace(tags, addr, 16, tag_word::taken(addr, true));
+        let start = tag_array::start(addr, 16);
+        return writeback(lines, old, start, tag_word::displaced(old, addr));
     }
-    no_writeback(WritebackAnswer::Refused(1))
+    refused_writeback()
 }
 
 // The address that line `index`, modulo 512, came from.
@@ -170,75 +162,48 @@ pub fn resident_addr(tags: &[u32], index: usize) -> Value
     ensures { λ r. ⌜ toldValue r ≡ residentTold (now (tags .entry)) (index % 512) (index % 512 * 16) ⌝ }
 {
     let i = index % 512;
-    tag_array::resident_addr(tags, i, i * 16)
+    both::resident_addr(tags, i, i * 16)
 }
 
-// The number of the refusal of an access, or 0. An access stays within its line.
-fn access_refusal(addr: u32, len: usize) -> u8
-    ensures { λ r. ⌜ r ≡ accessRefusal addr len ⌝ }
+// A hit, a fill, or a line that must leave first, with its own address.
+fn planned(word: u32, addr: u32, start: usize) -> PlanAnswer
+    ensures { λ r. ⌜ toldPlan r ≡ plannedOf word addr start ⌝ }
 {
-    if len < 1 {
-        return 2;
+    if tag_word::is_hit(word, addr) {
+        return PlanAnswer::Hit;
     }
-    if 8 < len {
-        return 2;
+    if tag_word::leaves(word) {
+        return PlanAnswer::Evict(tag_word::resident(word, start));
     }
-    if 16 < (addr % 16) as usize + len {
-        return 3;
-    }
-    0
+    PlanAnswer::Fill
 }
 
-// The word of a line that is flushed: as it was, where neither flag is asked for.
-fn flushed(old: u32, invalidate: bool, clean: bool) -> u32
-    ensures { λ r. ⌜ r ≡ flushedWord old invalidate clean ⌝ }
+// Must the line be written back before the address can have it?
+fn evicts(word: u32, addr: u32) -> bool
+    ensures { λ r. ⌜ r ≡ evictsOf word addr ⌝ }
 {
-    if invalidate {
-        return tag_word::invalid(old);
+    if tag_word::is_hit(word, addr) {
+        return false;
     }
-    if clean {
-        return tag_word::word(tag_word::tag(old), tag_word::valid(old), false);
-    }
-    old
+    tag_word::leaves(word)
 }
 
-// Does the line leave for another address?
-fn displaced(old: u32, addr: u32) -> bool
-    ensures { λ r. ⌜ r ≡ displacedOf old addr ⌝ }
-{
-    if tag_word::leaves(old) {
-        return tag_word::tag(old) != tag_word::tag_of(addr);
-    }
-    false
-}
-
+// The line that starts there, if it leaves.
 fn writeback(lines: &[u8], word: u32, start: usize, leaves: bool) -> DataWriteback
     requires { ⌜ start + 16 ≤ length (now lines) ⌝ }
     ensures { λ r. ⌜ (toldWriteback (r .answer) ≡ evictedIf leaves word start) × (r .«data» ≡ bytesIf leaves (now (lines .entry)) start) ⌝ }
 {
-    if leaves {
-        return DataWriteback {
-            answer: WritebackAnswer::Evict(tag_word::resident(word, start)),
-            data: bytes::line16(lines, start),
-        };
+    DataWriteback {
+        answer: both::evicted(leaves, word, start),
+        data: bytes::line16(lines, start, leaves),
     }
-    no_writeback(WritebackAnswer::None)
 }
 
-fn no_writeback(answer: WritebackAnswer) -> DataWriteback
-    ensures { λ r. ⌜ (r .answer ≡ answer) × (r .«data» ≡ replicate 16 0) ⌝ }
+fn refused_writeback() -> DataWriteback
+    ensures { λ r. ⌜ (toldWriteback (r .answer) ≡ refused 1) × (r .«data» ≡ replicate 16 0) ⌝ }
 {
     DataWriteback {
-        answer,
-        data: [0; 16],
-    }
-}
-
-fn plan(answer: PlanAnswer) -> MissPlan
-    ensures { λ r. ⌜ (r .answer ≡ answer) × (r .«data» ≡ replicate 16 0) ⌝ }
-{
-    MissPlan {
-        answer,
+        answer: WritebackAnswer::Refused(1),
         data: [0; 16],
     }
 }

@@ -1,11 +1,8 @@
 // The two primary caches, over lent memory: a buffer of bytes and an array of 512 tag words each.
 mod answers;
-mod bytes;
+mod both;
 pub mod dcache;
 pub mod icache;
-mod parts;
-mod tag_array;
-mod tag_word;
 
 pub use answers::Asked;
 pub use answers::DataWriteback;

@@ -17,7 +17,7 @@ use Rattle.tlb.specs.Entries.{pageSizeOf}
 use Rattle.tlb.specs.Moves.{pairs}
 use Rattle.exception.specs.Epilogue.{recorded, addressed, handling}
 use Rattle.exception.specs.Taking.{takenOf, dispatchOf}
-use Rattle.cache.specs.Tags.{tagLoOf, storedOf}
+use Rattle.tags.specs.Words.{tagLoOf, storedOf}
 use Rattle.cache.specs.Both.{loadTold, residentTold, storeTags}
 use Rattle.numbers.specs.Table.{all}
 use Rattle.numbers.specs.RegisterFile.{registerFile}

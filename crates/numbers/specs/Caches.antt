@@ -2,7 +2,7 @@
 use mathlib.Core.List.{List, [], _∷_}
 use Prim.Native.Nat.{ℕ}
 use lib.ListN.{replicate}
-use Rattle.cache.specs.Lines.{indexOf, startOf}
+use Rattle.tags.specs.Places.{indexOf, startOf}
 use Rattle.cache.specs.Both.{loadTold, residentTold, storeTags}
 use Rattle.numbers.specs.Table.{Row, row, answer}
 

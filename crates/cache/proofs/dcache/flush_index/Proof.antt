@@ -10,38 +10,25 @@ use Rattle.cache.proofs.dcache.flush_index.Tie as tie
 are-sized-requires : tie.Need-are-sized-requires
 are-sized-requires c κs = search needs
 
-index-requires : tie.Need-index-requires
-index-requires c κs = search needs
-
-mul-old : tie.Need-mul-old
-mul-old c = search needs
-
-slice-read-old : tie.Need-slice-read-old
-slice-read-old c =
-    let s = c .before .before in
-    omega (arith, (lengths 8192 _ _ (s .before .are-sized .ensures) (s .if1 .taken)) .1, c .before .index .ensures)
+word-for-requires : tie.Need-word-for-requires
+word-for-requires c κs = search needs
 
 flushed-requires : tie.Need-flushed-requires
 flushed-requires c κs = search needs
 
-mul-tags : tie.Need-mul-tags
-mul-tags c = search needs
+replace-requires : tie.Need-replace-requires
+replace-requires c κs = search needs
 
-slice-write-tags : tie.Need-slice-write-tags
-slice-write-tags c =
-    let s = c .before .before .before in
-    omega (arith, (lengths 8192 _ _ (s .before .are-sized .ensures) (s .if1 .taken)) .1, c .before .before .index .ensures)
-
-mul-writeback : tie.Need-mul-writeback
-mul-writeback c = search needs
+start-requires : tie.Need-start-requires
+start-requires c κs = search needs
 
 leaves-requires : tie.Need-leaves-requires
 leaves-requires c κs = search needs
 
 writeback-requires : tie.Need-writeback-requires
 writeback-requires c κs =
-    let s = c .before .before .before .before in
-    omega (arith, (lengths 8192 _ _ (s .before .are-sized .ensures) (s .if1 .taken)) .0, c .before .before .before .index .ensures)
+    let s = c .before .before .before .before .before .before .before .before .before in
+    omega (arith, lengths 8192 _ _ (s .before .are-sized .ensures) (s .if1 .taken) .0, c .before .start .ensures)
 
 same-length : tie.Need-same-length
 same-length c = search needs
@@ -49,18 +36,19 @@ same-length c = search needs
 returns : tie.Need-returns
 unfolding flushTold flushBytes flushTags
 returns c =
-    let s = c .before .before .before .before .before in
+    let s = c .before .before .before .before .before .before .before .before .before .before in
     rw (
       ← s .before .are-sized .ensures,
       s .if1 .taken,
-      ← c .before .before .before .before .index .ensures,
+      ← c .before .before .before .before .before .before .before .before .word-for .ensures,
+      ← c .before .before .start .ensures,
       ← c .before .leaves .ensures,
-      c .before .before .flushed .ensures,
+      ← c .before .before .before .before .before .before .flushed .ensures,
     )
-    (c .writeback .ensures .0, c .writeback .ensures .1, refl)
+    (c .writeback .ensures .0, c .writeback .ensures .1, c .before .before .before .before .before .replace .ensures)
 
-no-writeback-requires : tie.Need-no-writeback-requires
-no-writeback-requires c κs = search needs
+refused-writeback-requires : tie.Need-refused-writeback-requires
+refused-writeback-requires c κs = search needs
 
 same-length-2 : tie.Need-same-length-2
 same-length-2 c = search needs
@@ -68,30 +56,22 @@ same-length-2 c = search needs
 returns-2 : tie.Need-returns-2
 unfolding flushTold flushBytes flushTags
 returns-2 c =
-    rw (
-      c .no-writeback .ensures .0,
-      c .no-writeback .ensures .1,
-      ← c .before .before .are-sized .ensures,
-      c .before .if1 .left,
-    )
-    (refl, refl, refl)
+    rw (← c .before .before .are-sized .ensures, c .before .if1 .left)
+    (c .refused-writeback .ensures .0, c .refused-writeback .ensures .1, refl)
 
 pub flush-index-spec : {M : Type 1} → statement M
 flush-index-spec =
     tie.close
     (tie.spec
     are-sized-requires
-    index-requires
-    mul-old
-    slice-read-old
+    word-for-requires
     flushed-requires
-    mul-tags
-    slice-write-tags
-    mul-writeback
+    replace-requires
+    start-requires
     leaves-requires
     writeback-requires
     same-length
     returns
-    no-writeback-requires
+    refused-writeback-requires
     same-length-2
     returns-2)

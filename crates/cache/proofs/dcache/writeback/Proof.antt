@@ -1,25 +1,20 @@
--- `dcache::writeback` tells a line that leaves.
-use mathlib.Core.Path.{refl}
+-- `dcache::writeback` tells a line that goes.
+use mathlib.Core.Path.{_∙_}
 use borrow.Author.Needs.{needs}
+use Rattle.lines.proofs.ByteLaws.{line-if}
 use Rattle.cache.proofs.dcache.writeback.Statement.{statement}
 use Rattle.cache.proofs.dcache.writeback.Tie as tie
 
-resident-requires : tie.Need-resident-requires
-resident-requires c κs = search needs
+evicted-requires : tie.Need-evicted-requires
+evicted-requires c κs = search needs
 
 line16-requires : tie.Need-line16-requires
 line16-requires c κs = search needs
 
 returns : tie.Need-returns
 returns c =
-    rw (c .before .before .if1 .taken, c .before .resident .ensures) (refl, c .line16 .ensures)
-
-no-writeback-requires : tie.Need-no-writeback-requires
-no-writeback-requires c κs = search needs
-
-returns-2 : tie.Need-returns-2
-returns-2 c = search needs
+    let a = c .before .before .before .args in
+    (c .before .evicted .ensures, c .line16 .ensures ∙ line-if (a .lines .now) (a .start) 16 (search needs) (a .leaves))
 
 pub writeback-spec : {M : Type 1} → statement M
-writeback-spec =
-    tie.close (tie.spec resident-requires line16-requires returns no-writeback-requires returns-2)
+writeback-spec = tie.close (tie.spec evicted-requires line16-requires returns)

@@ -1,0 +1,3 @@
+pub mod AccessLaws
+pub mod ByteLaws
+pub mod Unique
