@@ -1,70 +1,78 @@
 // One operation of the data cache, played on the lent bytes and tag words.
-use crate::dcache_op::DcacheOp;
-use crate::step::Answer;
+use crate::kind::flag;
+use crate::kind::word;
+use crate::told;
+use crate::told::Told;
 use crate::words;
-use crate::words::Words;
 use cache::DataWriteback;
 use cache::MissPlan;
 use cache::PlanAnswer;
 use cache::WritebackAnswer;
 use cache::dcache;
+use trace::Call;
+use trace::operations;
 
-pub fn play(op: DcacheOp, lines: &mut [u8], tags: &mut [u32]) -> Answer {
+// The last is `d_line`.
+pub fn play(call: Call, lines: &mut [u8], tags: &mut [u32]) -> Told {
+    let op = call.operation;
+    let v = call.values;
+    let addr = word(v[0]);
     match op {
-        DcacheOp::Hits(addr) => Answer::of_asked(dcache::hits(tags, addr)),
-        DcacheOp::MissPlan(addr) => planned(dcache::miss_plan(lines, tags, addr)),
-        DcacheOp::Install(addr, first, second) => {
-            Answer::of_done(dcache::install(lines, tags, addr, words::data_line(first, second)))
+        operations::D_HITS => Told::of_asked(dcache::hits(tags, addr)),
+        operations::D_MISS_PLAN => planned(dcache::miss_plan(lines, tags, addr)),
+        operations::D_INSTALL => {
+            Told::of_done(dcache::install(lines, tags, addr, words::data_line(v[1], v[2])))
         }
-        DcacheOp::Read(addr, len) => Answer::of_value(dcache::read(lines, addr, len as usize)),
-        DcacheOp::Write(addr, len, value) => {
-            Answer::of_done(dcache::write(lines, tags, addr, len as usize, value))
+        operations::D_READ => Told::of_value(dcache::read(lines, addr, v[1] as usize)),
+        operations::D_WRITE => {
+            Told::of_done(dcache::write(lines, tags, addr, v[1] as usize, v[2]))
         }
-        DcacheOp::LoadTag(addr) => Answer::of_value(dcache::load_tag(tags, addr)),
-        DcacheOp::StoreTag(addr, tag_lo) => Answer::of_done(dcache::store_tag(tags, addr, tag_lo)),
-        DcacheOp::FlushIndex(addr, invalidate, clean) => {
-            written_back(dcache::flush_index(lines, tags, addr, invalidate, clean))
+        operations::D_LOAD_TAG => Told::of_value(dcache::load_tag(tags, addr)),
+        operations::D_STORE_TAG => Told::of_done(dcache::store_tag(tags, addr, word(v[1]))),
+        operations::D_FLUSH_INDEX => {
+            written_back(dcache::flush_index(lines, tags, addr, flag(v[1]), flag(v[2])))
         }
-        DcacheOp::CreateDirtyExclusive(addr) => {
+        operations::D_CREATE_DIRTY_EXCLUSIVE => {
             written_back(dcache::create_dirty_exclusive(lines, tags, addr))
         }
-        DcacheOp::Line(i) => line(lines, tags, i),
+        _ => line(lines, tags, v[0]),
     }
 }
 
-fn planned(plan: MissPlan) -> Answer {
+fn planned(plan: MissPlan) -> Told {
     let answer = plan.answer;
     let data = plan.data;
     match answer {
-        PlanAnswer::Hit => Answer::Hit,
-        PlanAnswer::Fill => Answer::Fill,
+        PlanAnswer::Hit => Told::plain(told::HIT),
+        PlanAnswer::Fill => Told::plain(told::FILL),
         PlanAnswer::Evict(addr) => evicted(addr, data),
-        PlanAnswer::Refused(k) => Answer::Refused(k),
+        PlanAnswer::Refused(k) => Told::refused(k),
     }
 }
 
-fn written_back(made: DataWriteback) -> Answer {
+fn written_back(made: DataWriteback) -> Told {
     let answer = made.answer;
     let data = made.data;
     match answer {
-        WritebackAnswer::None => Answer::None,
+        WritebackAnswer::None => Told::plain(told::NONE),
         WritebackAnswer::Evict(addr) => evicted(addr, data),
-        WritebackAnswer::Refused(k) => Answer::Refused(k),
+        WritebackAnswer::Refused(k) => Told::refused(k),
     }
 }
 
-fn evicted(addr: u32, line: [u8; 16]) -> Answer {
-    Answer::Evict(addr, Words::of_data(&line, 0))
+fn evicted(addr: u32, line: [u8; 16]) -> Told {
+    words::with_data(Told::one(told::DATA_EVICT, addr as u64), 1, &line, 0)
 }
 
 // A line as it is stored.
-fn line(lines: &[u8], tags: &[u32], i: u64) -> Answer {
+fn line(lines: &[u8], tags: &[u32], i: u64) -> Told {
     if lines.len() != 8192 {
-        return Answer::Refused(1);
+        return Told::refused(1);
     }
     if tags.len() != 512 {
-        return Answer::Refused(1);
+        return Told::refused(1);
     }
     let index = (i % 512) as usize;
-    Answer::Line(tags[index], Words::of_data(lines, index * 16))
+    let told = words::of_tag(told::DATA_LINE, tags[index]);
+    words::with_data(told, 3, lines, index * 16)
 }

@@ -1,50 +1,58 @@
 // One operation of the instruction cache, played on the lent bytes and tag words.
-use crate::icache_op::IcacheOp;
-use crate::step::Answer;
+use crate::kind::word;
+use crate::told;
+use crate::told::Told;
 use crate::words;
-use crate::words::Words;
 use cache::InstructionWriteback;
 use cache::WritebackAnswer;
 use cache::icache;
+use trace::Call;
+use trace::operations;
 
-pub fn play(op: IcacheOp, lines: &mut [u8], tags: &mut [u32]) -> Answer {
+// The last is `i_line`.
+pub fn play(call: Call, lines: &mut [u8], tags: &mut [u32]) -> Told {
+    let op = call.operation;
+    let v = call.values;
+    let addr = word(v[0]);
     match op {
-        IcacheOp::Hits(addr) => Answer::of_asked(icache::hits(tags, addr)),
-        IcacheOp::Install(addr, a, b, c, d) => {
-            Answer::of_done(icache::install(lines, tags, addr, words::instruction_line(a, b, c, d)))
+        operations::I_HITS => Told::of_asked(icache::hits(tags, addr)),
+        operations::I_INSTALL => {
+            let line = words::instruction_line(v[1], v[2], v[3], v[4]);
+            Told::of_done(icache::install(lines, tags, addr, line))
         }
-        IcacheOp::ReadWord(addr) => Answer::of_value(icache::read_word(lines, addr)),
-        IcacheOp::LoadTag(addr) => Answer::of_value(icache::load_tag(tags, addr)),
-        IcacheOp::StoreTag(addr, tag_lo) => Answer::of_done(icache::store_tag(tags, addr, tag_lo)),
-        IcacheOp::InvalidateIndex(addr) => Answer::of_done(icache::invalidate_index(tags, addr)),
-        IcacheOp::HitInvalidate(addr) => Answer::of_done(icache::hit_invalidate(tags, addr)),
-        IcacheOp::FlushHit(addr) => written_back(icache::flush_hit(lines, tags, addr)),
-        IcacheOp::Line(i) => line(lines, tags, i),
+        operations::I_READ_WORD => Told::of_value(icache::read_word(lines, addr)),
+        operations::I_LOAD_TAG => Told::of_value(icache::load_tag(tags, addr)),
+        operations::I_STORE_TAG => Told::of_done(icache::store_tag(tags, addr, word(v[1]))),
+        operations::I_INVALIDATE_INDEX => Told::of_done(icache::invalidate_index(tags, addr)),
+        operations::I_HIT_INVALIDATE => Told::of_done(icache::hit_invalidate(tags, addr)),
+        operations::I_FLUSH_HIT => written_back(icache::flush_hit(lines, tags, addr)),
+        _ => line(lines, tags, v[0]),
     }
 }
 
-fn written_back(made: InstructionWriteback) -> Answer {
+fn written_back(made: InstructionWriteback) -> Told {
     let answer = made.answer;
     let data = made.data;
     match answer {
-        WritebackAnswer::None => Answer::None,
+        WritebackAnswer::None => Told::plain(told::NONE),
         WritebackAnswer::Evict(addr) => evicted(addr, data),
-        WritebackAnswer::Refused(k) => Answer::Refused(k),
+        WritebackAnswer::Refused(k) => Told::refused(k),
     }
 }
 
-fn evicted(addr: u32, line: [u8; 32]) -> Answer {
-    Answer::Evict(addr, Words::of_instructions(&line, 0))
+fn evicted(addr: u32, line: [u8; 32]) -> Told {
+    words::with_instructions(Told::one(told::INSTRUCTION_EVICT, addr as u64), 1, &line, 0)
 }
 
 // A line as it is stored.
-fn line(lines: &[u8], tags: &[u32], i: u64) -> Answer {
+fn line(lines: &[u8], tags: &[u32], i: u64) -> Told {
     if lines.len() != 16384 {
-        return Answer::Refused(1);
+        return Told::refused(1);
     }
     if tags.len() != 512 {
-        return Answer::Refused(1);
+        return Told::refused(1);
     }
     let index = (i % 512) as usize;
-    Answer::Line(tags[index], Words::of_instructions(lines, index * 32))
+    let told = words::of_tag(told::INSTRUCTION_LINE, tags[index]);
+    words::with_instructions(told, 3, lines, index * 32)
 }

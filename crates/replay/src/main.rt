@@ -1,34 +1,22 @@
-// Plays traces of COP0, TLB, exception and cache operations and writes an answer to each operation (docs/TRACE.md says what
-// a trace is).
+// Plays traces of a session's operations and of the caches' and writes an answer to each operation (docs/TRACE.md says what a
+// trace is).
 //
-// From bytes to an answer: `input` reads a trace whole, `trace` goes through it line by line, `line` finds words,
-// `operand` and `number` read the operands, `kind` says what their numbers stand for, `op` has the operations and their
-// names (`register_op`, `translation_op`, `exception_op`, `dcache_op`, `icache_op`), `request` makes one `Op` of a line,
-// `step` plays it on the `session` (`register_step`, `translation_step`, `exception_step`) or on the caches (`dcache_step`,
-// `icache_step`, with lines as `words`), `answer` says what came of it, and `output` holds the text until there is much to
-// write.
+// From bytes to an answer: `input` reads a trace whole, `run` goes through it line by line, the library `trace` says what a line
+// asks, `kind` what its numbers stand for, `step` plays it: a session's operations run through `session::Session::step`
+// (`session_step`), others ask or write the session's registers (`register_step`) or the caches (`dcache_step`, `icache_step`,
+// with lines as `words`). `told` has what comes of it, `answer` writes that as text, and `output` holds the text until there is
+// much to write.
 mod answer;
-mod dcache_op;
 mod dcache_step;
-mod exception_op;
-mod exception_step;
-mod icache_op;
 mod icache_step;
 mod input;
 mod kind;
-mod line;
-mod number;
-mod op;
-mod operand;
 mod output;
-mod register_op;
 mod register_step;
-mod request;
-mod session;
+mod run;
+mod session_step;
 mod step;
-mod trace;
-mod translation_op;
-mod translation_step;
+mod told;
 mod words;
 
 ghost use Prim.Native.Nat.{_≤_};
@@ -56,7 +44,7 @@ fn play_input(room: &mut [u8], out: &mut [u8]) {
         os::fail(b"standard input");
         return;
     }
-    let used = trace::play(room, got.count, out, 0);
+    let used = run::play(room, got.count, out, 0);
     output::flush(out, used);
 }
 
@@ -85,5 +73,5 @@ fn play_file(i: usize, room: &mut [u8], out: &mut [u8], used: usize) -> usize
         return output::put(out, used, b": cannot be read\n");
     }
     let used = output::put(out, used, b"\n");
-    trace::play(room, got.count, out, used)
+    run::play(room, got.count, out, used)
 }

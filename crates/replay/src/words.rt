@@ -1,29 +1,33 @@
 // A line of a cache as words of 8 bytes, the highest byte first, as a trace writes it.
 ghost use Prim.Native.Nat.{_+_, _≤_};
 ghost use lib.ListN.{length};
+use crate::told::Told;
 
-// A data line has 16 bytes, an instruction line 32.
-pub enum Words {
-    Data(u64, u64),
-    Instructions(u64, u64, u64, u64),
+// With the words of the data line that starts at `at`, from number `n` on.
+pub fn with_data(told: Told, n: usize, bytes: &[u8], at: usize) -> Told
+    requires { ⌜ (n ≤ 3) × (at + 16 ≤ length (now bytes)) ⌝ }
+{
+    let first = word(bytes, at);
+    let second = word(bytes, at + 8);
+    told.with(n, first).with(n + 1, second)
 }
 
-impl Words {
-    // The data line that starts at `at`.
-    pub fn of_data(bytes: &[u8], at: usize) -> Words
-        requires { ⌜ at + 16 ≤ length (now bytes) ⌝ }
-    {
-        Words::Data(word(bytes, at), word(bytes, at + 8))
-    }
+// With the words of the instruction line that starts at `at`, from number `n` on.
+pub fn with_instructions(told: Told, n: usize, bytes: &[u8], at: usize) -> Told
+    requires { ⌜ (n ≤ 3) × (at + 32 ≤ length (now bytes)) ⌝ }
+{
+    let half = with_data(told, n, bytes, at);
+    let third = word(bytes, at + 16);
+    let fourth = word(bytes, at + 24);
+    half.with(n + 2, third).with(n + 3, fourth)
+}
 
-    // The instruction line that starts at `at`.
-    pub fn of_instructions(bytes: &[u8], at: usize) -> Words
-        requires { ⌜ at + 32 ≤ length (now bytes) ⌝ }
-    {
-        let first = word(bytes, at);
-        let second = word(bytes, at + 8);
-        Words::Instructions(first, second, word(bytes, at + 16), word(bytes, at + 24))
-    }
+// A tag word: bits 19..0 are the tag, bit 20 is valid and bit 21 is dirty.
+pub fn of_tag(row: usize, tag_word: u32) -> Told {
+    let tag = (tag_word % 0x10_0000) as u64;
+    let valid = (tag_word / 0x10_0000 % 2) as u64;
+    let dirty = (tag_word / 0x20_0000 % 2) as u64;
+    Told::three(row, tag, valid, dirty)
 }
 
 // The bytes of a data line.

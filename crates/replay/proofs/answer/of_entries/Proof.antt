@@ -21,6 +21,9 @@ entry-requires c κs = search needs
 of-entry-requires : tie.Need-of-entry-requires Inv-loop μ-loop
 of-entry-requires c κs = search needs
 
+write-requires : tie.Need-write-requires Inv-loop μ-loop
+write-requires c κs = search needs
+
 add-i : tie.Need-add-i Inv-loop μ-loop
 add-i c = search needs
 
@@ -39,4 +42,15 @@ returns c = search needs
 pub of-entries-spec : {M : Type 1} → statement M
 of-entries-spec =
     tie.close
-    (tie.spec Inv-loop μ-loop loop-holds entry-requires of-entry-requires add-i loop-less loop-again same-length returns)
+    (tie.spec
+    Inv-loop
+    μ-loop
+    loop-holds
+    entry-requires
+    of-entry-requires
+    write-requires
+    add-i
+    loop-less
+    loop-again
+    same-length
+    returns)
