@@ -2,26 +2,19 @@
 // trace is).
 //
 // From bytes to an answer: `input` reads a trace whole, `run` goes through it line by line, the library `trace` says what a line
-// asks, `kind` what its numbers stand for, `step` plays it: a session's operations run through `session::Session::step`
-// (`session_step`), others ask or write the session's registers (`register_step`) or the caches (`dcache_step`, `icache_step`,
-// with lines as `words`). `told` has what comes of it, `answer` writes that as text, and `output` holds the text until there is
-// much to write.
-mod answer;
-mod dcache_step;
-mod icache_step;
+// asks, `kind` what its numbers stand for, and `step` plays it: a session's operations run through `session::Session::step`
+// (`session_step`), others ask or write the session's registers (`register_step`). The caches' are in the library `cache_trace`.
+// `trace` has what is told of it as text, and holds the text until there is much to write; `state` tells the session whole.
 mod input;
 mod kind;
-mod output;
 mod register_step;
 mod run;
 mod session_step;
+mod state;
 mod step;
-mod told;
-mod words;
 
-ghost use Prim.Native.Nat.{_≤_};
-ghost use lib.ListN.{length};
 use libc::STDIN_FILENO;
+use trace::output;
 
 // The two large buffers, for a trace and for the text to write, stand here alone and are lent to everything else.
 fn main() {
@@ -61,10 +54,7 @@ fn play_files(words: usize, room: &mut [u8], out: &mut [u8]) {
 
 // The line `trace NAME`, and the file's answers. The name stands in `room` until the file is read over it, so it is
 // written first, and its line is ended once it is known whether the file can be read.
-fn play_file(i: usize, room: &mut [u8], out: &mut [u8], used: usize) -> usize
-    requires { ⌜ used ≤ length (now out) ⌝ }
-    ensures { λ r. ⌜ r ≤ length (now (out .exit)) ⌝ }
-{
+fn play_file(i: usize, room: &mut [u8], out: &mut [u8], used: usize) -> usize {
     let n = os::arg(i, room);
     let used = output::put(out, used, b"trace ");
     let used = output::put(out, used, &room[0..n]);

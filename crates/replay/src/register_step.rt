@@ -3,8 +3,7 @@ use crate::kind::access_of;
 use crate::kind::byte;
 use crate::kind::vector_of;
 use crate::session_step::cached_flag;
-use crate::told;
-use crate::told::Told;
+use crate::session_step::of_dispatch;
 use addr::Access;
 use addr::AccessAnswer;
 use addr::Mode;
@@ -14,6 +13,8 @@ use cop0::Cop0Op;
 use cop0::FromRs;
 use trace::Call;
 use trace::operations;
+use trace::told;
+use trace::told::Told;
 
 // The answer, and the registers after it.
 pub struct Played {
@@ -68,8 +69,7 @@ fn taken(call: Call, c: Cop0) -> Played {
     let made = exception::nmi(c, v[0]);
     let dispatch = made.dispatch;
     let after = made.cop0;
-    let told = Told::two(told::VECTOR, dispatch.vector, dispatch.stall_cycles as u64);
-    answered(told, after)
+    answered(of_dispatch(dispatch), after)
 }
 
 // What the registers say. The last is `access`.

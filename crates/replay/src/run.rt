@@ -1,16 +1,17 @@
 // A whole trace, from a fresh start to its end or its first fault.
 ghost use Prim.Native.Nat.{_≤_};
-ghost use mathlib.Core.Path.{_≡_};
 ghost use lib.ListN.{length};
-use crate::answer;
-use crate::output;
+use crate::state;
 use crate::step;
-use crate::told::Told;
 use session::Session;
 use trace::Asked;
 use trace::Call;
+use trace::Fault;
 use trace::Stop;
+use trace::answer;
 use trace::operations;
+use trace::output;
+use trace::told::Told;
 
 // A run between two lines: the session, how much of the output buffer is used, and whether a fault ended the run.
 struct Run {
@@ -22,8 +23,7 @@ struct Run {
 // The trace in the first `n` bytes of `room`. One that fills `room` is over the limit. The caches' memory, all zero as in a
 // fresh cache, is lent to everything below: first the data cache's 8192 bytes and 512 tag words, then the instruction cache's.
 pub fn play(room: &[u8], n: usize, out: &mut [u8], used: usize) -> usize
-    requires { ⌜ (n ≤ length (now room)) × (used ≤ length (now out)) ⌝ }
-    ensures { λ r. ⌜ r ≤ length (now (out .exit)) ⌝ }
+    requires { ⌜ n ≤ length (now room) ⌝ }
 {
     if n == room.len() {
         return output::put(out, used, b"trace too long\n");
@@ -34,10 +34,13 @@ pub fn play(room: &[u8], n: usize, out: &mut [u8], used: usize) -> usize
 }
 
 // A last line that no `\n` ends counts; nothing after the last `\n` is no line.
-fn play_lines(text: &[u8], out: &mut [u8], used: usize, lines: &mut [u8], tags: &mut [u32]) -> usize
-    requires { ⌜ (used ≤ length (now out)) × (8192 ≤ length (now lines)) × (512 ≤ length (now tags)) ⌝ }
-    ensures { λ r. ⌜ r ≤ length (now (out .exit)) ⌝ }
-{
+fn play_lines(
+    text: &[u8],
+    out: &mut [u8],
+    used: usize,
+    lines: &mut [u8],
+    tags: &mut [u32],
+) -> usize {
     let mut run = Run {
         session: Session::new(),
         used,
@@ -66,48 +69,53 @@ fn play_line(
     out: &mut [u8],
     lines: &mut [u8],
     tags: &mut [u32],
-) -> Run
-    requires { ⌜ (run .used ≤ length (now out)) × (8192 ≤ length (now lines)) × (512 ≤ length (now tags)) ⌝ }
-    ensures { λ r. ⌜ r .used ≤ length (now (out .exit)) ⌝ }
-{
+) -> Run {
     let request = trace::read(text, at);
     let asked = request.asked;
     match asked {
         Asked::Nothing => run,
         Asked::Play => play_call(request.call, run, out, lines, tags),
-        Asked::Wrong(fault) => {
-            let session = run.session;
-            let used = answer::write_fault(out, run.used, number, fault);
-            Run {
-                session,
-                used,
-                ended: true,
-            }
-        }
+        Asked::Wrong(fault) => stopped(number, fault, run, out),
+    }
+}
+
+// What is wrong ends the run.
+fn stopped(number: u64, fault: Fault, run: Run, out: &mut [u8]) -> Run {
+    let session = run.session;
+    let used = answer::write_fault(out, run.used, number, fault);
+    Run {
+        session,
+        used,
+        ended: true,
     }
 }
 
 // One operation and its answer.
-fn play_call(call: Call, run: Run, out: &mut [u8], lines: &mut [u8], tags: &mut [u32]) -> Run
-    requires { ⌜ (run .used ≤ length (now out)) × (8192 ≤ length (now lines)) × (512 ≤ length (now tags)) ⌝ }
-    ensures { λ r. ⌜ r .used ≤ length (now (out .exit)) ⌝ }
-{
-    let session = run.session;
+fn play_call(call: Call, run: Run, out: &mut [u8], lines: &mut [u8], tags: &mut [u32]) -> Run {
     let op = call.operation;
     if op == operations::NEW {
         return told(
-            step::renew_caches(lines, tags),
+            cache_trace::renew(lines, tags),
             Session::new(),
             run.used,
             out,
         );
     }
-    if op == operations::STATE {
-        let used = answer::write_state(out, run.used, session);
-        return running(session, used);
-    }
     if operations::VECTOR < op {
-        return told(step::play_caches(call, lines, tags), session, run.used, out);
+        return told(
+            cache_trace::play(call, lines, tags),
+            run.session,
+            run.used,
+            out,
+        );
+    }
+    on_session(call, run, out)
+}
+
+fn on_session(call: Call, run: Run, out: &mut [u8]) -> Run {
+    let session = run.session;
+    if call.operation == operations::STATE {
+        return running(session, state::write(out, run.used, session));
     }
     let played = step::play(call, session);
     let answer = played.told;
@@ -115,16 +123,11 @@ fn play_call(call: Call, run: Run, out: &mut [u8], lines: &mut [u8], tags: &mut 
     told(answer, after, run.used, out)
 }
 
-fn told(answer: Told, session: Session, used: usize, out: &mut [u8]) -> Run
-    requires { ⌜ used ≤ length (now out) ⌝ }
-    ensures { λ r. ⌜ r .used ≤ length (now (out .exit)) ⌝ }
-{
+fn told(answer: Told, session: Session, used: usize, out: &mut [u8]) -> Run {
     running(session, answer::write(out, used, answer))
 }
 
-fn running(session: Session, used: usize) -> Run
-    ensures { λ r. ⌜ r .used ≡ used ⌝ }
-{
+fn running(session: Session, used: usize) -> Run {
     Run {
         session,
         used,

@@ -5,28 +5,34 @@ use crate::kind::exception_of;
 use crate::kind::flag;
 use crate::kind::word;
 use crate::step::Played;
-use crate::told;
-use crate::told::Told;
 use addr::Cached;
 use addr::TranslateAnswer;
 use addr::TranslateError;
 use cop0::AdvanceAnswer;
+use exception::Dispatch;
 use session::Answer;
 use session::Op;
 use session::Session;
+use session::Stepped;
 use tlb::Entry;
 use tlb::LookupAnswer;
 use tlb::TlbFault;
 use trace::Call;
 use trace::operations;
+use trace::told;
+use trace::told::Told;
 
 pub fn play(call: Call, s: Session) -> Played {
     let v = call.values;
-    let stepped = s.step(op_of(call));
+    played(s.step(op_of(call)), v[0] % 32)
+}
+
+// An entry is told with its number `i`.
+fn played(stepped: Stepped, i: u64) -> Played {
     let answer = stepped.answer;
     let session = stepped.session;
     Played {
-        told: told_of(answer, v[0] % 32),
+        told: told_of(answer, i),
         session,
     }
 }
@@ -66,7 +72,6 @@ fn op_of(call: Call) -> Op {
     }
 }
 
-// An answer; an entry is told with its number.
 fn told_of(answer: Answer, i: u64) -> Told {
     match answer {
         Answer::Done => Told::plain(told::OK),
@@ -75,9 +80,7 @@ fn told_of(answer: Answer, i: u64) -> Told {
         Answer::Entry(entry) => of_entry(i, entry),
         Answer::Lookup(found) => of_lookup(found),
         Answer::Translate(found) => of_translation(found),
-        Answer::Vector(taken) => {
-            Told::two(told::VECTOR, taken.vector, taken.stall_cycles as u64)
-        }
+        Answer::Vector(taken) => of_dispatch(taken),
         Answer::Advance(advanced) => of_advance(advanced),
     }
 }
@@ -105,6 +108,10 @@ pub fn of_entry(i: u64, e: Entry) -> Told {
         row: told::ENTRY,
         values,
     }
+}
+
+pub fn of_dispatch(taken: Dispatch) -> Told {
+    Told::two(told::VECTOR, taken.vector, taken.stall_cycles as u64)
 }
 
 // A lookup tells whether the place is uncached, and a translation whether it is cached.

@@ -1,17 +1,10 @@
-// One operation, played on the session or on the caches.
-ghost use Prim.Native.Nat.{_≤_};
-ghost use lib.ListN.{length};
-use crate::dcache_step;
-use crate::icache_step;
+// One operation, played on the session.
 use crate::register_step;
 use crate::session_step;
-use crate::told::Told;
-use cache::Done;
-use cache::dcache;
-use cache::icache;
 use session::Session;
 use trace::Call;
 use trace::operations;
+use trace::told::Told;
 
 // The answer, and the session after it.
 pub struct Played {
@@ -19,7 +12,7 @@ pub struct Played {
     pub session: Session,
 }
 
-// One operation of the session. `new` makes a fresh one.
+// An operation of a session, or one beside.
 pub fn play(call: Call, s: Session) -> Played {
     let op = call.operation;
     if op <= operations::ERET {
@@ -33,24 +26,4 @@ pub fn play(call: Call, s: Session) -> Played {
         told,
         session: Session { cop0, tlb },
     }
-}
-
-// One operation of a cache. The lines and tag words of both are lent, the data cache's first.
-pub fn play_caches(call: Call, lines: &mut [u8], tags: &mut [u32]) -> Told
-    requires { ⌜ (8192 ≤ length (now lines)) × (512 ≤ length (now tags)) ⌝ }
-{
-    if call.operation <= operations::D_LINE {
-        return dcache_step::play(call, &mut lines[0..8192], &mut tags[0..512]);
-    }
-    icache_step::play(call, &mut lines[8192..], &mut tags[512..])
-}
-
-// Fresh caches.
-pub fn renew_caches(lines: &mut [u8], tags: &mut [u32]) -> Told
-    requires { ⌜ (8192 ≤ length (now lines)) × (512 ≤ length (now tags)) ⌝ }
-{
-    if let Done::Refused(k) = dcache::new(&mut lines[0..8192], &mut tags[0..512]) {
-        return Told::refused(k);
-    }
-    Told::of_done(icache::new(&mut lines[8192..], &mut tags[512..]))
 }

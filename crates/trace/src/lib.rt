@@ -1,11 +1,14 @@
-// A trace's text: where its lines end, the words of a line, the numbers that they write, and what a line asks by the table of
-// `operations`.
+// A trace's text, both ways: where its lines end, the words of a line, the numbers that they write, and what a line asks by the
+// table of `operations`; and what is `told`, an `answer` as text, on its way out by `output`.
+pub mod answer;
 mod line;
 mod number;
 mod operand;
 pub mod operations;
+pub mod output;
 mod request;
 mod row;
+pub mod told;
 
 pub use line::Stop;
 pub use line::find;

@@ -124,8 +124,8 @@ fn in_session<'a>(name: &'a str, operands: &[u64]) -> Option<(&'a str, Vec<u64>)
     match name {
         "read" => Some(("dmfc0", operands.to_vec())),
         "write" | "set_hardware" => Some(("dmtc0", operands.to_vec())),
-        "tick_random" => Some(("advance", vec![0, 1])),
-        "tick_random_by" => Some(("advance", vec![0, operands[0]])),
+        "tick_random" => Some(("advance", vec![1, 1])),
+        "tick_random_by" => Some(("advance", vec![operands[0] % 16, operands[0]])),
         "nmi" => Some(("dispatch", vec![NMI, 0, 0, operands[0], 0, 0])),
         _ => own.then(|| (name, operands.to_vec())),
     }

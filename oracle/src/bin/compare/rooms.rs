@@ -128,29 +128,40 @@ fn cuts(rng: &mut Rng, machine: &Machine, call: &Call) -> Vec<(u64, u64)> {
         return Vec::new();
     }
     let (counts, steps) = (call.operands[0], call.operands[1]);
-    let number = 1 + rng.below(5);
+    let number = 1 + rng.below(4);
     let mut places: Vec<u64> = (0..number).map(|_| a_place(rng, machine, counts)).collect();
-    let mut turns: Vec<u64> =
-        (0..number).map(|_| rng.next() % steps.saturating_add(1).max(1)).collect();
     places.push(counts);
+    places.sort_unstable();
+    // A place twice is an empty piece.
+    if !rng.one_in(3) {
+        places.dedup();
+    }
+    let mut turns: Vec<u64> = places[1..].iter().map(|_| a_part(rng, steps)).collect();
     turns.push(steps);
-    differences(places).into_iter().zip(differences(turns)).collect()
+    turns.sort_unstable();
+    differences(&places).into_iter().zip(differences(&turns)).collect()
 }
 
-/// A place to cut at: on Compare, at the wrap of Count, next to these, at an end, or anywhere.
+/// A place to cut at: on Compare, at the wrap of Count, next to Compare, at an end, or anywhere.
 fn a_place(rng: &mut Rng, machine: &Machine, counts: u64) -> u64 {
+    let to_compare = to(machine, machine.cop0.read(reg::COMPARE));
     let place = match rng.below(8) {
-        0..=2 => to(machine, machine.cop0.read(reg::COMPARE)),
-        3 | 4 => to(machine, 0),
-        5 => aim::near(rng, to(machine, machine.cop0.read(reg::COMPARE))),
-        6 => rng.pick(&[0, counts]),
-        _ => counts,
+        0 | 1 => to_compare,
+        2 => to(machine, 0),
+        3 => aim::near(rng, to_compare),
+        4 => rng.pick(&[0, counts]),
+        _ => u64::MAX,
     };
-    if place <= counts && !rng.one_in(6) {
+    if place <= counts {
         place
     } else {
-        rng.next() % (counts + 1)
+        a_part(rng, counts)
     }
+}
+
+fn a_part(rng: &mut Rng, whole: u64) -> u64 {
+    let any = rng.next();
+    whole.checked_add(1).map_or(any, |bound| any % bound)
 }
 
 /// The distance from Count.
@@ -158,11 +169,10 @@ fn to(machine: &Machine, place: u64) -> u64 {
     place.wrapping_sub(machine.cop0.read(reg::COUNT)) % WORD
 }
 
-/// From 0 to each of the places, in their order.
-fn differences(mut places: Vec<u64>) -> Vec<u64> {
-    places.sort_unstable();
-    let before = std::iter::once(0).chain(places.iter().copied());
-    before.zip(&places).map(|(before, place)| place - before).collect()
+/// From 0 to the first of some places in their order, and from each to the next.
+fn differences(places: &[u64]) -> Vec<u64> {
+    let before = std::iter::once(&0).chain(places);
+    before.zip(places).map(|(before, place)| place - before).collect()
 }
 
 impl Counts {
@@ -243,6 +253,6 @@ mod tests {
 
     #[test]
     fn differences_of_places() {
-        assert_eq!(differences(vec![7, 0, 7, 9]), [0, 7, 0, 2]);
+        assert_eq!(differences(&[0, 7, 7, 9]), [0, 7, 0, 2]);
     }
 }

@@ -1,4 +1,4 @@
--- `run::play_lines` stays within the text and keeps what is held within the buffer. A line has a byte or its end, so there
+-- `run::play_lines` stays within the text. A line has a byte or its end, so there
 -- are no more lines than bytes, and their number fits.
 use mathlib.Core.Path.{_≡_}
 use Prim.Native.Nat.{_≤_, _-_, _+_}
@@ -9,7 +9,7 @@ use Rattle.replay.proofs.run.play_lines.Tie as tie
 
 abbrev Inv-loop : tie.InvT-loop
 Inv-loop text out₀ used d₀ t₀ run₀ at₀ number₀ out d t run at number =
-    (at ≤ length text + 1) × (number ≤ at) × (run .used ≤ length out) × (length out ≡ length out₀)
+    (at ≤ length text + 1) × (number ≤ at) × (length out ≡ length out₀)
     × (length d ≡ length d₀) × (length t ≡ length t₀)
 
 abbrev μ-loop : tie.MeasureT-loop

@@ -3,8 +3,8 @@ use mathlib.Core.Path.{_≡_}
 use Prim.Native.Nat.{_≤_}
 use lib.ListN.{length}
 use borrow.Author.Needs.{needs}
-use Rattle.replay.proofs.words.put_word.Statement.{statement}
-use Rattle.replay.proofs.words.put_word.Tie as tie
+use Rattle.cache_trace.proofs.words.put_word.Statement.{statement}
+use Rattle.cache_trace.proofs.words.put_word.Tie as tie
 
 abbrev Inv-loop : tie.InvT-loop
 Inv-loop line₀ at value left₀ i₀ line left i = (i ≤ 8) × (length line ≡ length line₀)

@@ -1,29 +1,29 @@
 // A line of a cache as words of 8 bytes, the highest byte first, as a trace writes it.
 ghost use Prim.Native.Nat.{_+_, _≤_};
 ghost use lib.ListN.{length};
-use crate::told::Told;
+use trace::told::Told;
 
 // With the words of the data line that starts at `at`, from number `n` on.
-pub fn with_data(told: Told, n: usize, bytes: &[u8], at: usize) -> Told
+pub(crate) fn with_data(told: Told, n: usize, bytes: &[u8], at: usize) -> Told
     requires { ⌜ (n ≤ 3) × (at + 16 ≤ length (now bytes)) ⌝ }
 {
-    let first = word(bytes, at);
-    let second = word(bytes, at + 8);
+    let first = word_at(bytes, at);
+    let second = word_at(bytes, at + 8);
     told.with(n, first).with(n + 1, second)
 }
 
 // With the words of the instruction line that starts at `at`, from number `n` on.
-pub fn with_instructions(told: Told, n: usize, bytes: &[u8], at: usize) -> Told
+pub(crate) fn with_instructions(told: Told, n: usize, bytes: &[u8], at: usize) -> Told
     requires { ⌜ (n ≤ 3) × (at + 32 ≤ length (now bytes)) ⌝ }
 {
     let half = with_data(told, n, bytes, at);
-    let third = word(bytes, at + 16);
-    let fourth = word(bytes, at + 24);
+    let third = word_at(bytes, at + 16);
+    let fourth = word_at(bytes, at + 24);
     half.with(n + 2, third).with(n + 3, fourth)
 }
 
 // A tag word: bits 19..0 are the tag, bit 20 is valid and bit 21 is dirty.
-pub fn of_tag(row: usize, tag_word: u32) -> Told {
+pub(crate) fn of_tag(row: usize, tag_word: u32) -> Told {
     let tag = (tag_word % 0x10_0000) as u64;
     let valid = (tag_word / 0x10_0000 % 2) as u64;
     let dirty = (tag_word / 0x20_0000 % 2) as u64;
@@ -31,7 +31,7 @@ pub fn of_tag(row: usize, tag_word: u32) -> Told {
 }
 
 // The bytes of a data line.
-pub fn data_line(first: u64, second: u64) -> [u8; 16] {
+pub(crate) fn data_line(first: u64, second: u64) -> [u8; 16] {
     let mut line = [0u8; 16];
     put_word(&mut line, 0, first);
     put_word(&mut line, 8, second);
@@ -39,7 +39,7 @@ pub fn data_line(first: u64, second: u64) -> [u8; 16] {
 }
 
 // The bytes of an instruction line.
-pub fn instruction_line(first: u64, second: u64, third: u64, fourth: u64) -> [u8; 32] {
+pub(crate) fn instruction_line(first: u64, second: u64, third: u64, fourth: u64) -> [u8; 32] {
     let mut line = [0u8; 32];
     put_word(&mut line, 0, first);
     put_word(&mut line, 8, second);
@@ -48,7 +48,12 @@ pub fn instruction_line(first: u64, second: u64, third: u64, fourth: u64) -> [u8
     line
 }
 
-fn word(bytes: &[u8], at: usize) -> u64
+// The low 32 bits of an operand, which has no others.
+pub(crate) fn word(value: u64) -> u32 {
+    (value % 0x1_0000_0000) as u32
+}
+
+fn word_at(bytes: &[u8], at: usize) -> u64
     requires { ⌜ at + 8 ≤ length (now bytes) ⌝ }
 {
     let mut value: u64 = 0;

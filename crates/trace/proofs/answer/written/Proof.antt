@@ -1,13 +1,13 @@
--- `answer::written` keeps what is held within the buffer, value by value.
+-- `answer::written` stays within the row and the values.
 use mathlib.Core.Path.{_≡_}
 use Prim.Native.Nat.{_≤_, _-_}
 use lib.ListN.{length}
 use borrow.Author.Needs.{needs}
-use Rattle.replay.proofs.answer.written.Statement.{statement}
-use Rattle.replay.proofs.answer.written.Tie as tie
+use Rattle.trace.proofs.answer.written.Statement.{statement}
+use Rattle.trace.proofs.answer.written.Tie as tie
 
 abbrev Inv-loop : tie.InvT-loop
-Inv-loop out₀ used row values end held₀ at₀ i₀ out held at i = (held ≤ length out) × (at ≤ length row) × (length out ≡ length out₀)
+Inv-loop out₀ used row values end held₀ at₀ i₀ out held at i = (at ≤ length row) × (length out ≡ length out₀)
 
 abbrev μ-loop : tie.MeasureT-loop
 μ-loop out₀ used row values end held₀ at₀ i₀ out held at i = length values - i

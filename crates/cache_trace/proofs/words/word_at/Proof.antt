@@ -1,8 +1,8 @@
--- `words::word` stays within the bytes.
+-- `words::word_at` stays within the bytes.
 use Prim.Native.Nat.{_≤_, _-_}
 use borrow.Author.Needs.{needs}
-use Rattle.replay.proofs.words.word.Statement.{statement}
-use Rattle.replay.proofs.words.word.Tie as tie
+use Rattle.cache_trace.proofs.words.word_at.Statement.{statement}
+use Rattle.cache_trace.proofs.words.word_at.Tie as tie
 
 abbrev Inv-loop : tie.InvT-loop
 Inv-loop bytes at value₀ i₀ value i = i ≤ 8
@@ -34,8 +34,8 @@ loop-again c = search needs
 returns : tie.Need-returns Inv-loop μ-loop
 returns c = search needs
 
-pub word-spec : {M : Type 1} → statement M
-word-spec =
+pub word-at-spec : {M : Type 1} → statement M
+word-at-spec =
     tie.close
     (tie.spec
     Inv-loop

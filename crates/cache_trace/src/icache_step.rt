@@ -1,30 +1,33 @@
 // One operation of the instruction cache, played on the lent bytes and tag words.
-use crate::kind::word;
-use crate::told;
-use crate::told::Told;
+use crate::answers::of_asked;
+use crate::answers::of_done;
+use crate::answers::of_value;
 use crate::words;
+use crate::words::word;
 use cache::InstructionWriteback;
 use cache::WritebackAnswer;
 use cache::icache;
 use trace::Call;
 use trace::operations;
+use trace::told;
+use trace::told::Told;
 
 // The last is `i_line`.
-pub fn play(call: Call, lines: &mut [u8], tags: &mut [u32]) -> Told {
+pub(crate) fn play(call: Call, lines: &mut [u8], tags: &mut [u32]) -> Told {
     let op = call.operation;
     let v = call.values;
     let addr = word(v[0]);
     match op {
-        operations::I_HITS => Told::of_asked(icache::hits(tags, addr)),
+        operations::I_HITS => of_asked(icache::hits(tags, addr)),
         operations::I_INSTALL => {
             let line = words::instruction_line(v[1], v[2], v[3], v[4]);
-            Told::of_done(icache::install(lines, tags, addr, line))
+            of_done(icache::install(lines, tags, addr, line))
         }
-        operations::I_READ_WORD => Told::of_value(icache::read_word(lines, addr)),
-        operations::I_LOAD_TAG => Told::of_value(icache::load_tag(tags, addr)),
-        operations::I_STORE_TAG => Told::of_done(icache::store_tag(tags, addr, word(v[1]))),
-        operations::I_INVALIDATE_INDEX => Told::of_done(icache::invalidate_index(tags, addr)),
-        operations::I_HIT_INVALIDATE => Told::of_done(icache::hit_invalidate(tags, addr)),
+        operations::I_READ_WORD => of_value(icache::read_word(lines, addr)),
+        operations::I_LOAD_TAG => of_value(icache::load_tag(tags, addr)),
+        operations::I_STORE_TAG => of_done(icache::store_tag(tags, addr, word(v[1]))),
+        operations::I_INVALIDATE_INDEX => of_done(icache::invalidate_index(tags, addr)),
+        operations::I_HIT_INVALIDATE => of_done(icache::hit_invalidate(tags, addr)),
         operations::I_FLUSH_HIT => written_back(icache::flush_hit(lines, tags, addr)),
         _ => line(lines, tags, v[0]),
     }

@@ -2,8 +2,8 @@
 use Prim.Native.Nat.{_≤_, _-_}
 use lib.ListN.{length}
 use borrow.Author.Needs.{needs}
-use Rattle.replay.proofs.answer.start_of.Statement.{statement}
-use Rattle.replay.proofs.answer.start_of.Tie as tie
+use Rattle.trace.proofs.answer.start_of.Statement.{statement}
+use Rattle.trace.proofs.answer.start_of.Tie as tie
 
 abbrev Inv-loop : tie.InvT-loop
 Inv-loop table row at₀ i₀ at i = at ≤ length table

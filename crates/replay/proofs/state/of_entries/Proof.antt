@@ -1,13 +1,13 @@
--- `answer::of_entries` keeps what is held within the buffer, entry by entry.
+-- `state::of_entries` ends after 32 entries.
 use mathlib.Core.Path.{_≡_}
-use Prim.Native.Nat.{_≤_, _-_}
+use Prim.Native.Nat.{_-_}
 use lib.ListN.{length}
 use borrow.Author.Needs.{needs}
-use Rattle.replay.proofs.answer.of_entries.Statement.{statement}
-use Rattle.replay.proofs.answer.of_entries.Tie as tie
+use Rattle.replay.proofs.state.of_entries.Statement.{statement}
+use Rattle.replay.proofs.state.of_entries.Tie as tie
 
 abbrev Inv-loop : tie.InvT-loop
-Inv-loop out₀ used t held₀ i₀ out held i = (held ≤ length out) × (length out ≡ length out₀)
+Inv-loop out₀ used t held₀ i₀ out held i = length out ≡ length out₀
 
 abbrev μ-loop : tie.MeasureT-loop
 μ-loop out₀ used t held₀ i₀ out held i = 32 - i

@@ -1,8 +1,4 @@
 // What an operation answers, as a row of the answers' table and the numbers that go into it.
-use cache::Asked;
-use cache::Done;
-use cache::Value;
-
 // The most numbers that an answer has.
 pub const MOST: usize = 14;
 
@@ -101,27 +97,5 @@ impl Told {
             self.values[at] = value;
         }
         self
-    }
-
-    // What the caches answer, each of which may be a refusal.
-    pub fn of_done(told: Done) -> Told {
-        match told {
-            Done::Done => Told::plain(OK),
-            Done::Refused(k) => Told::refused(k),
-        }
-    }
-
-    pub fn of_asked(told: Asked) -> Told {
-        match told {
-            Asked::Is(is) => Told::flag(is),
-            Asked::Refused(k) => Told::refused(k),
-        }
-    }
-
-    pub fn of_value(told: Value) -> Told {
-        match told {
-            Value::Of(value) => Told::number(value),
-            Value::Refused(k) => Told::refused(k),
-        }
     }
 }

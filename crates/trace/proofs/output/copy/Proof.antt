@@ -6,8 +6,8 @@ use native.Mathlib.Numerals.{add-one}
 use lib.ListN.{length}
 use lib.Seq.{paste, paste-zero, paste-suc}
 use borrow.Author.Needs.{needs}
-use Rattle.replay.proofs.output.copy.Statement.{statement}
-use Rattle.replay.proofs.output.copy.Tie as tie
+use Rattle.trace.proofs.output.copy.Statement.{statement}
+use Rattle.trace.proofs.output.copy.Tie as tie
 
 abbrev Inv-loop : tie.InvT-loop
 Inv-loop out₀ at bytes i₀ out i = (i ≤ length bytes) × (length out ≡ length out₀) × (out ≡ paste out₀ at bytes i)
