@@ -3,34 +3,51 @@ use crate::answers::of_asked;
 use crate::answers::of_done;
 use crate::answers::of_value;
 use crate::words;
-use crate::words::word;
 use cache::DataWriteback;
 use cache::MissPlan;
 use cache::PlanAnswer;
 use cache::WritebackAnswer;
 use cache::dcache;
 use trace::Call;
+use trace::flag;
 use trace::operations;
 use trace::told;
 use trace::told::Told;
+use trace::word;
 
-// The last is `d_line`.
 pub(crate) fn play(call: Call, lines: &mut [u8], tags: &mut [u32]) -> Told {
+    if call.operation <= operations::D_STORE_TAG {
+        return on_tags(call, tags);
+    }
+    on_lines(call, lines, tags)
+}
+
+// What needs the tag words alone. The last is `d_store_tag`.
+fn on_tags(call: Call, tags: &mut [u32]) -> Told {
     let op = call.operation;
     let v = call.values;
     let addr = word(v[0]);
     match op {
         operations::D_HITS => of_asked(dcache::hits(tags, addr)),
+        operations::D_LOAD_TAG => of_value(dcache::load_tag(tags, addr)),
+        _ => of_done(dcache::store_tag(tags, addr, word(v[1]))),
+    }
+}
+
+// The last is `d_line`.
+fn on_lines(call: Call, lines: &mut [u8], tags: &mut [u32]) -> Told {
+    let op = call.operation;
+    let v = call.values;
+    let addr = word(v[0]);
+    match op {
         operations::D_MISS_PLAN => planned(dcache::miss_plan(lines, tags, addr)),
         operations::D_INSTALL => {
             of_done(dcache::install(lines, tags, addr, words::data_line(v[1], v[2])))
         }
         operations::D_READ => of_value(dcache::read(lines, addr, v[1] as usize)),
-        operations::D_WRITE => { of_done(dcache::write(lines, tags, addr, v[1] as usize, v[2])) }
-        operations::D_LOAD_TAG => of_value(dcache::load_tag(tags, addr)),
-        operations::D_STORE_TAG => of_done(dcache::store_tag(tags, addr, word(v[1]))),
+        operations::D_WRITE => of_done(dcache::write(lines, tags, addr, v[1] as usize, v[2])),
         operations::D_FLUSH_INDEX => {
-            written_back(dcache::flush_index(lines, tags, addr, v[1] == 1, v[2] == 1))
+            written_back(dcache::flush_index(lines, tags, addr, flag(v[1]), flag(v[2])))
         }
         operations::D_CREATE_DIRTY_EXCLUSIVE => {
             written_back(dcache::create_dirty_exclusive(lines, tags, addr))

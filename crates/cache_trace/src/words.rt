@@ -48,11 +48,6 @@ pub(crate) fn instruction_line(first: u64, second: u64, third: u64, fourth: u64)
     line
 }
 
-// The low 32 bits of an operand, which has no others.
-pub(crate) fn word(value: u64) -> u32 {
-    (value % 0x1_0000_0000) as u32
-}
-
 fn word_at(bytes: &[u8], at: usize) -> u64
     requires { ⌜ at + 8 ≤ length (now bytes) ⌝ }
 {

@@ -3,18 +3,8 @@ use addr::Access;
 use addr::Mode;
 use exception::Exception;
 use exception::VectorKind;
-
-pub fn byte(value: u64) -> u8 {
-    (value % 256) as u8
-}
-
-pub fn word(value: u64) -> u32 {
-    (value % 0x1_0000_0000) as u32
-}
-
-pub fn flag(value: u64) -> bool {
-    value == 1
-}
+use trace::byte;
+use trace::flag;
 
 // A mode, its width and ERL.
 pub fn access_of(mode: u64, wide: u64, erl: u64) -> Access {

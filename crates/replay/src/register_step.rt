@@ -1,6 +1,5 @@
 // The operations beside a session's: they write its registers, ask them, or ask nothing but the numbers of their line.
 use crate::kind::access_of;
-use crate::kind::byte;
 use crate::kind::vector_of;
 use crate::session_step::cached_flag;
 use crate::session_step::of_dispatch;
@@ -12,6 +11,7 @@ use cop0::Cop0;
 use cop0::Cop0Op;
 use cop0::FromRs;
 use trace::Call;
+use trace::byte;
 use trace::operations;
 use trace::told;
 use trace::told::Told;

@@ -1,9 +1,6 @@
 // One operation of a session, played: every one of them goes through `Session::step`.
 use crate::kind::access_of;
-use crate::kind::byte;
 use crate::kind::exception_of;
-use crate::kind::flag;
-use crate::kind::word;
 use crate::step::Played;
 use addr::Cached;
 use addr::TranslateAnswer;
@@ -18,9 +15,12 @@ use tlb::Entry;
 use tlb::LookupAnswer;
 use tlb::TlbFault;
 use trace::Call;
+use trace::byte;
+use trace::flag;
 use trace::operations;
 use trace::told;
 use trace::told::Told;
+use trace::word;
 
 pub fn play(call: Call, s: Session) -> Played {
     let v = call.values;

@@ -1,4 +1,5 @@
--- Laws that the proofs of `replay` cite.
+-- What the proofs of `trace` cite, and that its contract leaves one outcome.
 pub mod Digits
 pub mod Limits
 pub mod Scans
+pub mod Unique

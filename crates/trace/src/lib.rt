@@ -12,6 +12,9 @@ pub mod told;
 
 pub use line::Stop;
 pub use line::find;
+pub use operand::byte;
+pub use operand::flag;
+pub use operand::word;
 pub use request::Asked;
 pub use request::Call;
 pub use request::Fault;

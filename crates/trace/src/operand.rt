@@ -51,3 +51,16 @@ impl Operands {
         self
     }
 }
+
+// What an operand of 8 bits, of 32 bits and a flag hold. One over its limit has its line turned away.
+pub fn byte(value: u64) -> u8 {
+    (value % 256) as u8
+}
+
+pub fn word(value: u64) -> u32 {
+    (value % 0x1_0000_0000) as u32
+}
+
+pub fn flag(value: u64) -> bool {
+    value == 1
+}

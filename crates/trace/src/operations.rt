@@ -48,22 +48,22 @@ is_unused b
 segment lmff
 vector lv
 d_hits w
+d_load_tag w
+d_store_tag ww
 d_miss_plan w
 d_install wll
 d_read wl
 d_write wll
-d_load_tag w
-d_store_tag ww
 d_flush_index wff
 d_create_dirty_exclusive w
 d_line l
 i_hits w
-i_install wllll
-i_read_word w
 i_load_tag w
 i_store_tag ww
 i_invalidate_index w
 i_hit_invalidate w
+i_install wllll
+i_read_word w
 i_flush_hit w
 i_line l
 ",
@@ -157,17 +157,17 @@ pub const VECTOR: usize = 40;
 
 pub const D_HITS: usize = 41;
 
-pub const D_MISS_PLAN: usize = 42;
+pub const D_LOAD_TAG: usize = 42;
 
-pub const D_INSTALL: usize = 43;
+pub const D_STORE_TAG: usize = 43;
 
-pub const D_READ: usize = 44;
+pub const D_MISS_PLAN: usize = 44;
 
-pub const D_WRITE: usize = 45;
+pub const D_INSTALL: usize = 45;
 
-pub const D_LOAD_TAG: usize = 46;
+pub const D_READ: usize = 46;
 
-pub const D_STORE_TAG: usize = 47;
+pub const D_WRITE: usize = 47;
 
 pub const D_FLUSH_INDEX: usize = 48;
 
@@ -177,17 +177,17 @@ pub const D_LINE: usize = 50;
 
 pub const I_HITS: usize = 51;
 
-pub const I_INSTALL: usize = 52;
+pub const I_LOAD_TAG: usize = 52;
 
-pub const I_READ_WORD: usize = 53;
+pub const I_STORE_TAG: usize = 53;
 
-pub const I_LOAD_TAG: usize = 54;
+pub const I_INVALIDATE_INDEX: usize = 54;
 
-pub const I_STORE_TAG: usize = 55;
+pub const I_HIT_INVALIDATE: usize = 55;
 
-pub const I_INVALIDATE_INDEX: usize = 56;
+pub const I_INSTALL: usize = 56;
 
-pub const I_HIT_INVALIDATE: usize = 57;
+pub const I_READ_WORD: usize = 57;
 
 pub const I_FLUSH_HIT: usize = 58;
 
