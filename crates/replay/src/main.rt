@@ -1,39 +1,20 @@
-// Plays traces of COP0, TLB, exception and cache operations and writes an answer to each operation (docs/TRACE.md says what
-// a trace is).
+// Plays traces of a session's operations and of the caches' and writes an answer to each operation (docs/TRACE.md says what a
+// trace is).
 //
-// From bytes to an answer: `input` reads a trace whole, `trace` goes through it line by line, `line` finds words,
-// `operand` and `number` read the operands, `kind` says what their numbers stand for, `op` has the operations and their
-// names (`register_op`, `translation_op`, `exception_op`, `dcache_op`, `icache_op`), `request` makes one `Op` of a line,
-// `step` plays it on the `session` (`register_step`, `translation_step`, `exception_step`) or on the caches (`dcache_step`,
-// `icache_step`, with lines as `words`), `answer` says what came of it, and `output` holds the text until there is much to
-// write.
-mod answer;
-mod dcache_op;
-mod dcache_step;
-mod exception_op;
-mod exception_step;
-mod icache_op;
-mod icache_step;
+// From bytes to an answer: `input` reads a trace whole, `run` goes through it line by line, the library `trace` says what a line
+// asks, `kind` what its numbers stand for, and `step` plays it: a session's operations run through `session::Session::step`
+// (`session_step`), others ask or write the session's registers (`register_step`). The caches' are in the library `cache_trace`.
+// `trace` has what is told of it as text, and holds the text until there is much to write; `state` tells the session whole.
 mod input;
 mod kind;
-mod line;
-mod number;
-mod op;
-mod operand;
-mod output;
-mod register_op;
 mod register_step;
-mod request;
-mod session;
+mod run;
+mod session_step;
+mod state;
 mod step;
-mod trace;
-mod translation_op;
-mod translation_step;
-mod words;
 
-ghost use Prim.Native.Nat.{_≤_};
-ghost use lib.ListN.{length};
 use libc::STDIN_FILENO;
+use trace::output;
 
 // The two large buffers, for a trace and for the text to write, stand here alone and are lent to everything else.
 fn main() {
@@ -56,7 +37,7 @@ fn play_input(room: &mut [u8], out: &mut [u8]) {
         os::fail(b"standard input");
         return;
     }
-    let used = trace::play(room, got.count, out, 0);
+    let used = run::play(room, got.count, out, 0);
     output::flush(out, used);
 }
 
@@ -73,10 +54,7 @@ fn play_files(words: usize, room: &mut [u8], out: &mut [u8]) {
 
 // The line `trace NAME`, and the file's answers. The name stands in `room` until the file is read over it, so it is
 // written first, and its line is ended once it is known whether the file can be read.
-fn play_file(i: usize, room: &mut [u8], out: &mut [u8], used: usize) -> usize
-    requires { ⌜ used ≤ length (now out) ⌝ }
-    ensures { λ r. ⌜ r ≤ length (now (out .exit)) ⌝ }
-{
+fn play_file(i: usize, room: &mut [u8], out: &mut [u8], used: usize) -> usize {
     let n = os::arg(i, room);
     let used = output::put(out, used, b"trace ");
     let used = output::put(out, used, &room[0..n]);
@@ -85,5 +63,5 @@ fn play_file(i: usize, room: &mut [u8], out: &mut [u8], used: usize) -> usize
         return output::put(out, used, b": cannot be read\n");
     }
     let used = output::put(out, used, b"\n");
-    trace::play(room, got.count, out, used)
+    run::play(room, got.count, out, used)
 }

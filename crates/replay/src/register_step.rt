@@ -1,98 +1,158 @@
-// One operation of the registers, played.
-use crate::register_op::RegisterOp;
-use crate::session::Session;
-use crate::step;
-use crate::step::Answer;
-use cop0::AdvanceAnswer;
+// The operations beside a session's: they write its registers, ask them, or ask nothing but the numbers of their line.
+use crate::kind::access_of;
+use crate::kind::vector_of;
+use crate::session_step::cached_flag;
+use crate::session_step::of_dispatch;
+use addr::Access;
+use addr::AccessAnswer;
+use addr::Mode;
+use addr::Segment;
 use cop0::Cop0;
 use cop0::Cop0Op;
 use cop0::FromRs;
+use trace::Call;
+use trace::byte;
+use trace::operations;
+use trace::told;
+use trace::told::Told;
 
 // The answer, and the registers after it.
-struct Played {
-    answer: Answer,
-    cop0: Cop0,
+pub struct Played {
+    pub told: Told,
+    pub cop0: Cop0,
 }
 
-pub fn play(op: RegisterOp, s: Session) -> step::Played {
-    let played = on_registers(op, s.cop0);
-    let answer = played.answer;
-    let after = played.cop0;
-    step::Played {
-        answer,
-        session: s.with_cop0(after),
+pub fn play(call: Call, c: Cop0) -> Played {
+    let op = call.operation;
+    if op <= operations::TICK_RANDOM_BY {
+        return answered(Told::plain(told::OK), written(call, c));
     }
+    if op == operations::TIMER_EDGE {
+        return polled(c);
+    }
+    if op == operations::NMI {
+        return taken(call, c);
+    }
+    if op <= operations::ACCESS {
+        return answered(asked(call, c), c);
+    }
+    answered(computed(call), c)
 }
 
-fn on_registers(op: RegisterOp, c: Cop0) -> Played {
+fn answered(told: Told, c: Cop0) -> Played {
+    Played { told, cop0: c }
+}
+
+// The registers after a write. The last is `tick_random_by`.
+fn written(call: Call, c: Cop0) -> Cop0 {
+    let op = call.operation;
+    let v = call.values;
     match op {
-        RegisterOp::Mfc0(n) => number(c.mfc0(n), c),
-        RegisterOp::Dmfc0(n) => number(c.dmfc0(n), c),
-        RegisterOp::Read(n) => number(c.read(n), c),
-        RegisterOp::Mtc0(n, value) => done(c.mtc0(n, value)),
-        RegisterOp::Dmtc0(n, value) => done(c.dmtc0(n, value)),
-        RegisterOp::Write(n, value) => done(c.write(n, value)),
-        RegisterOp::SetHardware(n, value) => done(c.set_hardware(n, value)),
-        RegisterOp::SetIp(bit, on) => done(c.set_ip(bit, on)),
-        RegisterOp::InterruptPending => flag(c.interrupt_pending(), c),
-        RegisterOp::Advance(counts, steps) => advanced(c, counts, steps),
-        RegisterOp::SetNow(now) => done(c.set_now(now)),
-        RegisterOp::TickRandom => done(c.tick_random()),
-        RegisterOp::TickRandomBy(n) => done(c.tick_random_by(n)),
-        RegisterOp::TimerEdge => asked(c),
-        RegisterOp::TimerMatches => flag(c.timer_matches(), c),
-        RegisterOp::Count => number(c.count() as u64, c),
-        RegisterOp::CountNow => number(c.count_now(), c),
-        RegisterOp::CountTicksUntilTimerMatch => number(c.count_ticks_until_timer_match(), c),
-        RegisterOp::FromRs(rs) => answered(form(rs), c),
-        RegisterOp::IsWide(n) => flag(cop0::is_wide(n), c),
-        RegisterOp::IsUnused(n) => flag(Cop0::is_unused(n), c),
+        operations::WRITE => c.write(byte(v[0]), v[1]),
+        operations::SET_HARDWARE => c.set_hardware(byte(v[0]), v[1]),
+        operations::SET_NOW => c.set_now(v[0]),
+        operations::TICK_RANDOM => c.tick_random(),
+        _ => c.tick_random_by(v[0]),
     }
-}
-
-fn answered(answer: Answer, c: Cop0) -> Played {
-    Played { answer, cop0: c }
-}
-
-fn done(c: Cop0) -> Played {
-    answered(Answer::Done, c)
-}
-
-fn number(value: u64, c: Cop0) -> Played {
-    answered(Answer::Number(value), c)
-}
-
-fn flag(is: bool, c: Cop0) -> Played {
-    answered(Answer::Flag(is), c)
 }
 
 // The timer's question moves the mark of when it was last asked.
-fn asked(c: Cop0) -> Played {
+fn polled(c: Cop0) -> Played {
     let polled = c.timer_edge();
     let edge = polled.edge;
     let after = polled.cop0;
-    flag(edge, after)
+    answered(Told::flag(edge), after)
 }
 
-fn advanced(c: Cop0, counts: u64, steps: u64) -> Played {
-    let moved = c.advance(counts, steps);
-    let answer = moved.answer;
-    let after = moved.cop0;
-    match answer {
-        AdvanceAnswer::Edge(edge) => answered(Answer::Edge(edge), after),
-        AdvanceAnswer::Refused(k) => answered(Answer::Refused(k), after),
+fn taken(call: Call, c: Cop0) -> Played {
+    let v = call.values;
+    let made = exception::nmi(c, v[0]);
+    let dispatch = made.dispatch;
+    let after = made.cop0;
+    answered(of_dispatch(dispatch), after)
+}
+
+// What the registers say. The last is `access`.
+fn asked(call: Call, c: Cop0) -> Told {
+    let op = call.operation;
+    let v = call.values;
+    match op {
+        operations::READ => Told::number(c.read(byte(v[0]))),
+        operations::TIMER_MATCHES => Told::flag(c.timer_matches()),
+        operations::COUNT => Told::number(c.count() as u64),
+        operations::COUNT_NOW => Told::number(c.count_now()),
+        operations::COUNT_TICKS_UNTIL_TIMER_MATCH => {
+            Told::number(c.count_ticks_until_timer_match())
+        }
+        _ => access(c.regs[Cop0::STATUS as usize]),
+    }
+}
+
+// The access that Status asks for.
+fn access(status: u64) -> Told {
+    match Access::from_status(status) {
+        AccessAnswer::Of(access) => of_access(access),
+        AccessAnswer::Refused(k) => Told::refused(k),
+    }
+}
+
+fn of_access(access: Access) -> Told {
+    let mode = access.mode;
+    Told::three(
+        told::ACCESS,
+        mode_number(mode),
+        access.wide as u64,
+        access.erl as u64,
+    )
+}
+
+fn mode_number(mode: Mode) -> u64 {
+    match mode {
+        Mode::Kernel => 0,
+        Mode::Supervisor => 1,
+        Mode::User => 2,
+    }
+}
+
+// What needs no register. The last is `vector`.
+fn computed(call: Call) -> Told {
+    let op = call.operation;
+    let v = call.values;
+    match op {
+        operations::FROM_RS => form(byte(v[0])),
+        operations::IS_WIDE => Told::flag(cop0::is_wide(byte(v[0]))),
+        operations::IS_UNUSED => Told::flag(Cop0::is_unused(byte(v[0]))),
+        operations::SEGMENT => {
+            let access = access_of(v[1], v[2], v[3]);
+            of_segment(access.segment(v[0]))
+        }
+        _ => Told::number(exception::vector(v[0], vector_of(v[1]))),
     }
 }
 
 // The access form that an instruction's rs field names, by its number in the trace format.
-fn form(rs: u8) -> Answer {
+fn form(rs: u8) -> Told {
     match Cop0Op::from_rs(rs) {
-        FromRs::Refused(k) => Answer::Refused(k),
-        FromRs::Op(op) => match op {
-            Cop0Op::Mfc0 => Answer::Number(0),
-            Cop0Op::Dmfc0 => Answer::Number(1),
-            Cop0Op::Mtc0 => Answer::Number(2),
-            Cop0Op::Dmtc0 => Answer::Number(3),
-        },
+        FromRs::Refused(k) => Told::refused(k),
+        FromRs::Op(op) => Told::number(form_number(op)),
+    }
+}
+
+fn form_number(op: Cop0Op) -> u64 {
+    match op {
+        Cop0Op::Mfc0 => 0,
+        Cop0Op::Dmfc0 => 1,
+        Cop0Op::Mtc0 => 2,
+        Cop0Op::Dmtc0 => 3,
+    }
+}
+
+fn of_segment(segment: Segment) -> Told {
+    match segment {
+        Segment::Direct { addr, cached } => {
+            Told::two(told::DIRECT, addr as u64, cached_flag(cached))
+        }
+        Segment::Mapped => Told::plain(told::MAPPED),
+        Segment::Invalid => Told::plain(told::ADDRESS),
     }
 }

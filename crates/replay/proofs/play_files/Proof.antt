@@ -1,14 +1,13 @@
--- `play_files` keeps what is held within the buffer, file by file.
+-- `play_files` ends after the last word.
 use mathlib.Core.Path.{_≡_}
-use Prim.Native.Nat.{_≤_, _-_}
+use Prim.Native.Nat.{_-_}
 use lib.ListN.{length}
 use borrow.Author.Needs.{needs}
 use Rattle.replay.proofs.play_files.Statement.{statement}
 use Rattle.replay.proofs.play_files.Tie as tie
 
 abbrev Inv-loop : tie.InvT-loop
-Inv-loop words room₀ out₀ used₀ i₀ room out used i =
-    (used ≤ length out) × (length out ≡ length out₀) × (length room ≡ length room₀)
+Inv-loop words room₀ out₀ used₀ i₀ room out used i = (length out ≡ length out₀) × (length room ≡ length room₀)
 
 abbrev μ-loop : tie.MeasureT-loop
 μ-loop words room₀ out₀ used₀ i₀ room out used i = words - i

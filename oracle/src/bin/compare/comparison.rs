@@ -6,26 +6,32 @@ use std::path::{Path, PathBuf};
 use std::process::{Command, Output, Stdio};
 use std::{fs, io, process, thread};
 
-use oracle::play::play;
+use oracle::play::{play, Answer};
 
 use crate::judge::{judge, sections, Difference, Tally};
 use crate::options::{repository, Options};
 use crate::rng::Rng;
-use crate::{caches, exceptions, malformed, mixed, sweeps, translation};
+use crate::rooms::{Counts, Strides};
+use crate::{caches, exceptions, malformed, mixed, rooms, sweeps, translation};
 
 /// Traces that the program is given at a time.
 const BATCH: usize = 32;
 
 /// Traces after which the kinds of trace come again.
-const ROUND: u64 = 24;
+const ROUND: u64 = 38;
 
 /// Where a trace that differs is kept, from the repository's root.
 const KEPT: &str = "target/compare";
+
+/// The kinds of traces in which registers, the table, exceptions and the clock go together.
+const MIXED: [&str; 2] = ["mixed sessions", "stride pairs"];
 
 struct Trace {
     name: String,
     kind: &'static str,
     text: Vec<u8>,
+    /// How a stride pair's second session goes.
+    strides: Option<Strides>,
 }
 
 impl Trace {
@@ -35,6 +41,11 @@ impl Trace {
         let mut rng = Rng::new(seed, number);
         let operations = 400 + rng.index(200);
         let (round, place) = (number / ROUND, number % ROUND);
+        let name = format!("{seed:x}-{number}.trace");
+        if place >= 30 {
+            let (text, strides) = rooms::pair(rng, operations);
+            return Self { name, kind: MIXED[1], text, strides: Some(strides) };
+        }
         let once = match place {
             0 | 1 => sweeps::sweep(2 * round + place).map(|text| ("sweeps", text)),
             2..=5 => malformed::plain_fault(4 * round + place - 2).map(|text| ("faults", text)),
@@ -47,9 +58,10 @@ impl Trace {
             9 | 10 => ("wild tables", translation::wild(rng, operations)),
             11 | 12 => ("tame tables", translation::tame(rng, operations)),
             13..=16 => ("exceptions", exceptions::session(rng, operations)),
-            _ => ("caches", caches::session(rng, operations)),
+            17..=23 => ("caches", caches::session(rng, operations)),
+            _ => (MIXED[0], rooms::session(rng, operations)),
         });
-        Self { name: format!("{seed:x}-{number}.trace"), kind, text }
+        Self { name, kind, text, strides: None }
     }
 }
 
@@ -58,6 +70,8 @@ pub struct Comparison {
     tally: Tally,
     /// How many operations were compared in the traces of each kind.
     kinds: BTreeMap<&'static str, u64>,
+    /// What was cut in the stride pairs.
+    strides: Counts,
     traces: u64,
     /// Traces that were given on standard input as well.
     inputs: usize,
@@ -72,6 +86,7 @@ impl Comparison {
             options,
             tally: Tally::default(),
             kinds: BTreeMap::new(),
+            strides: Counts::default(),
             traces: 0,
             inputs: 0,
             room,
@@ -107,6 +122,11 @@ impl Comparison {
         for (kind, number) in &self.kinds {
             println!("  {kind:<30}{number:>9}");
         }
+        let Counts { pairs, advances, pieces, empty, on_compare, on_wrap } = self.strides;
+        println!(
+            "{pairs} stride pairs: {advances} advances in {pieces} pieces, {empty} of them empty;"
+        );
+        println!("  {on_compare} cuts on Compare, {on_wrap} at the wrap of Count");
         println!("operations and faults, each with its kinds of answer");
         for (name, number) in self.tally.rows() {
             println!("  {name:<30}{number:>9}");
@@ -114,6 +134,13 @@ impl Comparison {
                 println!("    {kind:<28}{number:>9}");
             }
         }
+    }
+
+    /// What was compared, in a line.
+    pub fn summary(&self) -> String {
+        let mixed: u64 = MIXED.iter().filter_map(|kind| self.kinds.get(kind)).sum();
+        let (total, pairs) = (self.tally.total(), self.strides.pairs);
+        format!("{total} operations, {mixed} of them in mixed sessions; {pairs} stride pairs")
     }
 
     fn run_batch(&mut self) -> io::Result<Option<String>> {
@@ -139,6 +166,13 @@ impl Comparison {
             if let Some(difference) = judge(&trace.text, wrote, &mut self.tally) {
                 keep(trace, wrote)?;
                 return Ok(Some(tell(trace, &difference) + &ending(&output)));
+            }
+            if let Some(strides) = &trace.strides {
+                if let Some(told) = parted(trace, strides) {
+                    keep(trace, wrote)?;
+                    return Ok(Some(told));
+                }
+                self.strides.add(&strides.counts);
             }
             *self.kinds.entry(trace.kind).or_default() += self.tally.total() - before;
             self.traces += 1;
@@ -200,6 +234,17 @@ fn tell(trace: &Trace, difference: &Difference) -> String {
     format!(
         "difference in {KEPT}/{name}, line {line}: {asked}\n  original: {original}\n  replay:   {other}"
     )
+}
+
+/// Where the two sessions of a stride pair part. Both programs wrote the same text, so that it is
+/// told of both.
+fn parted(trace: &Trace, strides: &Strides) -> Option<String> {
+    let answers: Vec<Answer> = play(&trace.text).collect();
+    let (line, whole, cut) = strides.parted(&answers)?;
+    let name = &trace.name;
+    Some(format!(
+        "strides part in {KEPT}/{name}, line {line}\n  whole: {whole}\n  in pieces: {cut}"
+    ))
 }
 
 fn told_ending(output: &Output) -> Option<String> {

@@ -4,10 +4,36 @@
 use oracle::machine::Machine;
 use oracle::parse::{lines, parse};
 
+use crate::exceptions::NMI;
 use crate::rng::Rng;
 
 /// Between two lines `state` stand about this many operations: a divergence shows near its cause.
 const BETWEEN_STATES: u64 = 40;
+
+/// The operations of a session.
+const SESSION: [&str; 21] = [
+    "mfc0",
+    "dmfc0",
+    "mtc0",
+    "dmtc0",
+    "set_ip",
+    "interrupt_pending",
+    "advance",
+    "is_shutdown",
+    "entry",
+    "page_size",
+    "pair_size",
+    "lookup",
+    "write_entry",
+    "read_entry",
+    "probe",
+    "jtlb_has_match",
+    "itlb_probe",
+    "itlb_fill",
+    "translate_via",
+    "dispatch",
+    "eret",
+];
 
 pub struct Draft {
     pub rng: Rng,
@@ -15,6 +41,7 @@ pub struct Draft {
     pub operations: usize,
     text: Vec<u8>,
     dress: Dress,
+    range: Range,
 }
 
 /// How the lines are written. All forms mean the same.
@@ -25,14 +52,33 @@ pub enum Dress {
     Fancy,
 }
 
+/// Which operations are put.
+#[derive(Clone, Copy)]
+pub enum Range {
+    All,
+    /// Those of a session, with `new` and `state`. Another is put in a session's form, if it has
+    /// one.
+    Session,
+}
+
 impl Draft {
     pub fn new(rng: Rng, dress: Dress) -> Self {
-        Self { rng, machine: Machine::new(), operations: 0, text: Vec::new(), dress }
+        Self::of(rng, dress, Range::All)
+    }
+
+    pub fn of(rng: Rng, dress: Dress, range: Range) -> Self {
+        Self { rng, machine: Machine::new(), operations: 0, text: Vec::new(), dress, range }
     }
 
     /// Adds an operation, and now and then a `state`.
     pub fn put(&mut self, name: &str, operands: &[u64]) {
-        self.put_line(name, operands);
+        match self.range {
+            Range::All => self.put_line(name, operands),
+            Range::Session => match in_session(name, operands) {
+                Some((name, operands)) => self.put_line(name, &operands),
+                None => return,
+            },
+        }
         if self.rng.one_in(BETWEEN_STATES) {
             self.put_line("state", &[]);
         }
@@ -68,6 +114,20 @@ impl Draft {
             Dress::Fancy => fancy(&mut self.rng, name, operands),
         };
         self.append(line.as_bytes());
+    }
+}
+
+/// An operation as a room's member does it: through the moves of an instruction, the advance and
+/// the exceptions.
+fn in_session<'a>(name: &'a str, operands: &[u64]) -> Option<(&'a str, Vec<u64>)> {
+    let own = ["new", "state"].contains(&name) || SESSION.contains(&name);
+    match name {
+        "read" => Some(("dmfc0", operands.to_vec())),
+        "write" | "set_hardware" => Some(("dmtc0", operands.to_vec())),
+        "tick_random" => Some(("advance", vec![1, 1])),
+        "tick_random_by" => Some(("advance", vec![operands[0] % 16, operands[0]])),
+        "nmi" => Some(("dispatch", vec![NMI, 0, 0, operands[0], 0, 0])),
+        _ => own.then(|| (name, operands.to_vec())),
     }
 }
 

@@ -17,7 +17,7 @@ const INTERRUPT: u64 = 0;
 pub const ADDRESS_ERROR: u64 = 1;
 pub const SYSCALL: u64 = 3;
 pub const COPROCESSOR_UNUSABLE: u64 = 8;
-const NMI: u64 = 9;
+pub const NMI: u64 = 9;
 pub const TLB_REFILL: u64 = 0xA;
 pub const TLB_INVALID: u64 = 0xB;
 pub const TLB_MODIFIED: u64 = 0xC;
@@ -68,6 +68,10 @@ const MOVES: [(u64, Move); 15] = [
 
 pub fn session(rng: Rng, operations: usize) -> Vec<u8> {
     translation::session(rng, operations, &MOVES, translation::write_apart)
+}
+
+pub fn any_move(draft: &mut Draft) {
+    mixed::a_move(&mut draft.rng, &MOVES)(draft);
 }
 
 /// Each exception with each of its operands' values, as EXC, A and B.

@@ -13,6 +13,7 @@ mod malformed;
 mod mixed;
 mod options;
 mod rng;
+mod rooms;
 mod sweeps;
 mod translation;
 
@@ -31,6 +32,7 @@ fn main() -> ExitCode {
     match comparison.run() {
         Ok(difference) => {
             comparison.report();
+            println!("{}", comparison.summary());
             println!("{}", difference.as_deref().unwrap_or("no difference"));
             ExitCode::from(u8::from(difference.is_some()))
         }

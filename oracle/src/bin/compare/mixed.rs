@@ -87,7 +87,7 @@ fn look(draft: &mut Draft) {
 }
 
 /// Count near Compare, or Compare near Count.
-fn place(draft: &mut Draft) {
+pub fn place(draft: &mut Draft) {
     let (moved, fixed) = draft.rng.pick(&[(reg::COUNT, reg::COMPARE), (reg::COMPARE, reg::COUNT)]);
     let there = draft.machine.cop0.read(fixed);
     let rng = &mut draft.rng;
@@ -98,7 +98,7 @@ fn place(draft: &mut Draft) {
     draft.put(name, &[register, value]);
 }
 
-fn advance(draft: &mut Draft) {
+pub fn advance(draft: &mut Draft) {
     let counts = aim::counts(draft);
     let steps = aim::steps(draft);
     draft.put("advance", &[counts, steps]);
@@ -181,7 +181,7 @@ fn ask(draft: &mut Draft) {
 }
 
 /// Advances of which one ends on Compare; the next must not report the edge again.
-fn pieces(draft: &mut Draft) {
+pub fn pieces(draft: &mut Draft) {
     let to_compare = aim::to_compare(draft);
     let rng = &mut draft.rng;
     let first = to_compare - rng.below(to_compare.min(3) + 1);

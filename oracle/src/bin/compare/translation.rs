@@ -69,8 +69,16 @@ pub fn session(mut rng: Rng, operations: usize, moves: &[(u64, Move)], write: Mo
     draft.finish()
 }
 
+pub fn tame_move(draft: &mut Draft) {
+    a_move(&mut draft.rng, &TAME)(draft);
+}
+
+pub fn wild_move(draft: &mut Draft) {
+    a_move(&mut draft.rng, &WILD)(draft);
+}
+
 /// Some entries to start with.
-fn fill(draft: &mut Draft, write: Move) {
+pub fn fill(draft: &mut Draft, write: Move) {
     for _ in 0..2 + draft.rng.below(8) {
         write(draft);
     }

@@ -1,4 +1,0 @@
--- Laws that the proofs of `replay` cite.
-pub mod Digits
-pub mod Limits
-pub mod Scans

@@ -1,0 +1,164 @@
+// One operation of a session, played: every one of them goes through `Session::step`.
+use crate::kind::access_of;
+use crate::kind::exception_of;
+use crate::step::Played;
+use addr::Cached;
+use addr::TranslateAnswer;
+use addr::TranslateError;
+use cop0::AdvanceAnswer;
+use exception::Dispatch;
+use session::Answer;
+use session::Op;
+use session::Session;
+use session::Stepped;
+use tlb::Entry;
+use tlb::LookupAnswer;
+use tlb::TlbFault;
+use trace::Call;
+use trace::byte;
+use trace::flag;
+use trace::operations;
+use trace::told;
+use trace::told::Told;
+use trace::word;
+
+pub fn play(call: Call, s: Session) -> Played {
+    let v = call.values;
+    played(s.step(op_of(call)), v[0] % 32)
+}
+
+// An entry is told with its number `i`.
+fn played(stepped: Stepped, i: u64) -> Played {
+    let answer = stepped.answer;
+    let session = stepped.session;
+    Played {
+        told: told_of(answer, i),
+        session,
+    }
+}
+
+// The operation of a line. The last is `eret`.
+fn op_of(call: Call) -> Op {
+    let op = call.operation;
+    let v = call.values;
+    match op {
+        operations::MFC0 => Op::Mfc0(byte(v[0])),
+        operations::DMFC0 => Op::Dmfc0(byte(v[0])),
+        operations::MTC0 => Op::Mtc0(byte(v[0]), v[1]),
+        operations::DMTC0 => Op::Dmtc0(byte(v[0]), v[1]),
+        operations::SET_IP => Op::SetIp(byte(v[0]), flag(v[1])),
+        operations::INTERRUPT_PENDING => Op::InterruptPending,
+        operations::ADVANCE => Op::Advance(v[0], v[1]),
+        operations::IS_SHUTDOWN => Op::IsShutdown,
+        operations::ENTRY => Op::Entry(v[0] as usize),
+        operations::PAGE_SIZE => Op::PageSize(word(v[0])),
+        operations::PAIR_SIZE => Op::PairSize(word(v[0])),
+        operations::LOOKUP => Op::Lookup(v[0], byte(v[1]), flag(v[2])),
+        operations::WRITE_ENTRY => Op::WriteEntry(v[0] as usize),
+        operations::READ_ENTRY => Op::ReadEntry(v[0] as usize),
+        operations::PROBE => Op::Probe,
+        operations::JTLB_HAS_MATCH => Op::JtlbHasMatch(v[0], byte(v[1])),
+        operations::ITLB_PROBE => Op::ItlbProbe(v[0], byte(v[1])),
+        operations::ITLB_FILL => Op::ItlbFill(v[0], byte(v[1])),
+        operations::TRANSLATE_VIA => {
+            let access = access_of(v[3], v[4], v[5]);
+            Op::TranslateVia(v[0], byte(v[1]), flag(v[2]), access)
+        }
+        operations::DISPATCH => {
+            let exc = exception_of(v[0], v[1], v[2]);
+            Op::Dispatch(exc, v[3], flag(v[4]), v[5])
+        }
+        _ => Op::Eret,
+    }
+}
+
+fn told_of(answer: Answer, i: u64) -> Told {
+    match answer {
+        Answer::Done => Told::plain(told::OK),
+        Answer::Number(value) => Told::number(value),
+        Answer::Flag(is) => Told::flag(is),
+        Answer::Entry(entry) => of_entry(i, entry),
+        Answer::Lookup(found) => of_lookup(found),
+        Answer::Translate(found) => of_translation(found),
+        Answer::Vector(taken) => of_dispatch(taken),
+        Answer::Advance(advanced) => of_advance(advanced),
+    }
+}
+
+pub fn of_entry(i: u64, e: Entry) -> Told {
+    let even = e.lo0;
+    let odd = e.lo1;
+    let values = [
+        i,
+        e.page_mask as u64,
+        e.vpn2,
+        e.asid as u64,
+        e.global as u64,
+        e.region as u64,
+        even.pfn as u64,
+        even.c as u64,
+        even.dirty as u64,
+        even.valid as u64,
+        odd.pfn as u64,
+        odd.c as u64,
+        odd.dirty as u64,
+        odd.valid as u64,
+    ];
+    Told {
+        row: told::ENTRY,
+        values,
+    }
+}
+
+pub fn of_dispatch(taken: Dispatch) -> Told {
+    Told::two(told::VECTOR, taken.vector, taken.stall_cycles as u64)
+}
+
+// A lookup tells whether the place is uncached, and a translation whether it is cached.
+fn of_lookup(answer: LookupAnswer) -> Told {
+    match answer {
+        LookupAnswer::Found(found) => {
+            Told::two(told::AT, found.addr as u64, found.uncached as u64)
+        }
+        LookupAnswer::Fault(fault) => of_fault(fault),
+    }
+}
+
+fn of_translation(answer: TranslateAnswer) -> Told {
+    match answer {
+        TranslateAnswer::At(found) => {
+            let cached = found.cached;
+            Told::two(told::AT, found.addr as u64, cached_flag(cached))
+        }
+        TranslateAnswer::Failed(error) => of_error(error),
+    }
+}
+
+pub fn cached_flag(cached: Cached) -> u64 {
+    match cached {
+        Cached::Yes => 1,
+        Cached::No => 0,
+    }
+}
+
+fn of_error(error: TranslateError) -> Told {
+    match error {
+        TranslateError::Address => Told::plain(told::ADDRESS),
+        TranslateError::Tlb(fault) => of_fault(fault),
+    }
+}
+
+fn of_fault(fault: TlbFault) -> Told {
+    match fault {
+        TlbFault::Refill => Told::plain(told::REFILL),
+        TlbFault::Invalid => Told::plain(told::INVALID),
+        TlbFault::Modified => Told::plain(told::MODIFIED),
+    }
+}
+
+fn of_advance(answer: AdvanceAnswer) -> Told {
+    match answer {
+        AdvanceAnswer::Edge(edge) => Told::one(told::EDGE, edge as u64),
+        AdvanceAnswer::Refused(k) => Told::refused(k),
+    }
+}
