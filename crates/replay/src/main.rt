@@ -1,20 +1,34 @@
 // Plays traces of a session's operations and of the caches' and writes an answer to each operation (docs/TRACE.md says what a
 // trace is).
 //
-// From bytes to an answer: `input` reads a trace whole, `run` goes through it line by line, the library `trace` says what a line
-// asks, `kind` what its numbers stand for, and `step` plays it: a session's operations run through `session::Session::step`
-// (`session_step`), others ask or write the session's registers (`register_step`). The caches' are in the library `cache_trace`.
-// `trace` has what is told of it as text, and holds the text until there is much to write; `state` tells the session whole.
+// From bytes to an answer: `input` reads a trace whole, `run` goes through it line by line, `request` says what a line asks, by
+// the table of `operations`, `kind` what its numbers stand for, and `step` plays it: a session's operations run through
+// `session::Session::step` (`session_step`), others ask or write the session's registers (`register_step`). The caches' are in
+// `cache_step`. What is `told` becomes text in `answer`, and `output` holds the text until there is much to write; `state` tells
+// the session whole.
+mod answer;
+mod cache_answers;
+mod cache_step;
+mod dcache_step;
+mod icache_step;
 mod input;
 mod kind;
+mod line;
+mod number;
+mod operand;
+mod operations;
+mod output;
 mod register_step;
+mod request;
+mod row;
 mod run;
 mod session_step;
 mod state;
 mod step;
+mod told;
+mod words;
 
 use libc::STDIN_FILENO;
-use trace::output;
 
 // The two large buffers, for a trace and for the text to write, stand here alone and are lent to everything else.
 fn main() {

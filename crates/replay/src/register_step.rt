@@ -1,8 +1,13 @@
 // The operations beside a session's: they write its registers, ask them, or ask nothing but the numbers of their line.
 use crate::kind::access_of;
 use crate::kind::vector_of;
+use crate::operand::byte;
+use crate::operations;
+use crate::request::Call;
 use crate::session_step::cached_flag;
 use crate::session_step::of_dispatch;
+use crate::told;
+use crate::told::Told;
 use addr::Access;
 use addr::AccessAnswer;
 use addr::Mode;
@@ -10,11 +15,6 @@ use addr::Segment;
 use cop0::Cop0;
 use cop0::Cop0Op;
 use cop0::FromRs;
-use trace::Call;
-use trace::byte;
-use trace::operations;
-use trace::told;
-use trace::told::Told;
 
 // The answer, and the registers after it.
 pub struct Played {

@@ -1,17 +1,20 @@
 // A whole trace, from a fresh start to its end or its first fault.
 ghost use Prim.Native.Nat.{_≤_};
 ghost use lib.ListN.{length};
+use crate::answer;
+use crate::cache_step;
+use crate::line::Stop;
+use crate::line::find;
+use crate::operations;
+use crate::output;
+use crate::request::Asked;
+use crate::request::Call;
+use crate::request::Fault;
+use crate::request::read;
 use crate::state;
 use crate::step;
+use crate::told::Told;
 use session::Session;
-use trace::Asked;
-use trace::Call;
-use trace::Fault;
-use trace::Stop;
-use trace::answer;
-use trace::operations;
-use trace::output;
-use trace::told::Told;
 
 // A run between two lines: the session, how much of the output buffer is used, and whether a fault ended the run.
 struct Run {
@@ -50,7 +53,7 @@ fn play_lines(
     let mut number = 0;
     while at < text.len() {
         let from = at;
-        at = trace::find(text, from, Stop::LineEnd) + 1;
+        at = find(text, from, Stop::LineEnd) + 1;
         number += 1;
         run = play_line(text, from, number, run, out, lines, tags);
         if run.ended {
@@ -70,7 +73,7 @@ fn play_line(
     lines: &mut [u8],
     tags: &mut [u32],
 ) -> Run {
-    let request = trace::read(text, at);
+    let request = read(text, at);
     let asked = request.asked;
     match asked {
         Asked::Nothing => run,
@@ -95,7 +98,7 @@ fn play_call(call: Call, run: Run, out: &mut [u8], lines: &mut [u8], tags: &mut 
     let op = call.operation;
     if op == operations::NEW {
         return told(
-            cache_trace::renew(lines, tags),
+            cache_step::renew(lines, tags),
             Session::new(),
             run.used,
             out,
@@ -103,7 +106,7 @@ fn play_call(call: Call, run: Run, out: &mut [u8], lines: &mut [u8], tags: &mut 
     }
     if operations::VECTOR < op {
         return told(
-            cache_trace::play(call, lines, tags),
+            cache_step::play(call, lines, tags),
             run.session,
             run.used,
             out,

@@ -1,7 +1,14 @@
 // One operation of a session, played: every one of them goes through `Session::step`.
 use crate::kind::access_of;
 use crate::kind::exception_of;
+use crate::operand::byte;
+use crate::operand::flag;
+use crate::operand::word;
+use crate::operations;
+use crate::request::Call;
 use crate::step::Played;
+use crate::told;
+use crate::told::Told;
 use addr::Cached;
 use addr::TranslateAnswer;
 use addr::TranslateError;
@@ -14,13 +21,6 @@ use session::Stepped;
 use tlb::Entry;
 use tlb::LookupAnswer;
 use tlb::TlbFault;
-use trace::Call;
-use trace::byte;
-use trace::flag;
-use trace::operations;
-use trace::told;
-use trace::told::Told;
-use trace::word;
 
 pub fn play(call: Call, s: Session) -> Played {
     let v = call.values;

@@ -1,10 +1,10 @@
 // The session whole, as text. Each function adds to what the output buffer holds, and answers how much is held then.
+use crate::answer;
 use crate::session_step::of_entry;
+use crate::told;
 use cop0::Cop0;
 use session::Session;
 use tlb::Tlb;
-use trace::answer;
-use trace::told;
 
 pub fn write(out: &mut [u8], used: usize, s: Session) -> usize {
     let used = of_registers(out, used, s.cop0);

@@ -1,10 +1,10 @@
 // One operation, played on the session.
+use crate::operations;
 use crate::register_step;
+use crate::request::Call;
 use crate::session_step;
+use crate::told::Told;
 use session::Session;
-use trace::Call;
-use trace::operations;
-use trace::told::Told;
 
 // The answer, and the session after it.
 pub struct Played {

@@ -1,0 +1,85 @@
+-- `number::parse` is the word's number: that of the digits passed, and then of those that are left. i digits are below 16
+-- to the i, so 16 of them fit.
+use mathlib.Core.Path.{_≡_, _∙_, sym}
+use Prim.Native.Nat.{_≤_, _<_, _-_, _^_}
+use native.Mathlib.Omega.{arith}
+use lib.ListN.{length, drop}
+use borrow.Author.Needs.{needs}
+use Rattle.replay.specs.Number.{after}
+use Rattle.replay.proofs.Digits.{empty, long, read, last, more, none, grown, fits}
+use Rattle.replay.proofs.number.parse.Statement.{statement}
+use Rattle.replay.proofs.number.parse.Tie as tie
+
+abbrev Inv-loop : tie.InvT-loop
+Inv-loop word value₀ i₀ value i = (i ≤ length word) × (value < 16 ^ i) × (after 0 word ≡ after value (drop i word))
+
+abbrev μ-loop : tie.MeasureT-loop
+μ-loop word value₀ i₀ value i = length word - i
+
+returns : tie.Need-returns Inv-loop μ-loop
+returns c = sym (empty _ (c .if1 .taken))
+
+returns-2 : tie.Need-returns-2 Inv-loop μ-loop
+returns-2 c = sym (long _ (c .if2 .taken))
+
+loop-holds : tie.Need-loop-holds Inv-loop μ-loop
+loop-holds c = search needs
+
+shared-slice-read-digit : tie.Need-shared-slice-read-digit Inv-loop μ-loop
+shared-slice-read-digit c = search needs
+
+digit-requires : tie.Need-digit-requires Inv-loop μ-loop
+digit-requires c κs = search needs
+
+returns-3 : tie.Need-returns-3 Inv-loop μ-loop
+returns-3 c =
+    let l = c .before .before .before .before in
+    sym (read _ (search needs) (search needs) ∙ l .loop .inv .2 ∙ none (l .loop .value) (l .loop .i) _ (search needs) (search needs))
+
+mul-value : tie.Need-mul-value Inv-loop μ-loop
+mul-value c =
+    let l = c .before .before .before .before .loop in
+    omega (arith, fits (l .value) (l .i) 0 (l .inv .1) (omega arith) (search needs))
+
+add-value : tie.Need-add-value Inv-loop μ-loop
+add-value c =
+    let l = c .before .before .before .before .loop in
+    omega (arith, fits (l .value) (l .i) (c .before .digit .result) (l .inv .1) (search needs) (search needs))
+
+add-i : tie.Need-add-i Inv-loop μ-loop
+add-i c = search needs
+
+loop-less : tie.Need-loop-less Inv-loop μ-loop
+loop-less c = search needs
+
+loop-again : tie.Need-loop-again Inv-loop μ-loop
+loop-again c =
+    let l = c .before .before .before .before in (
+      omega arith,
+      grown (l .loop .value) (l .loop .i) (c .before .digit .result) (l .loop .inv .1) (search needs),
+      l .loop .inv .2 ∙ rw (c .before .digit .ensures) (more (l .loop .value) (l .loop .i) _ (search needs) (search needs)),
+    )
+
+returns-4 : tie.Need-returns-4 Inv-loop μ-loop
+returns-4 c =
+    let l = c .before .loop in
+    sym (read _ (search needs) (search needs) ∙ l .inv .2 ∙ last (l .value) (l .i) _ (search needs))
+
+pub parse-spec : {M : Type 1} → statement M
+parse-spec =
+    tie.close
+    (tie.spec
+    Inv-loop
+    μ-loop
+    returns
+    returns-2
+    loop-holds
+    shared-slice-read-digit
+    digit-requires
+    returns-3
+    mul-value
+    add-value
+    add-i
+    loop-less
+    loop-again
+    returns-4)
