@@ -180,6 +180,13 @@ module _ (before after : List Op) (ps : List Piece) (small : allCounts ps < 2 ^ 
   pub same-after : one .after ≡ cut .after
   same-after = ap (λ (s : Session). run after s .answers) moved-alike
 
+  -- and both end where the plain machine does after the one advance
+  pub plain-session : cut .session ≡ plainRun (before ++ (op.Advance n m ∷ after)) fresh .session
+  plain-session =
+      sym same-session
+      ∙ ap (λ (r : Ran). r .session)
+      (sym (parts-are before (op.Advance n m ∷ []) after fresh) ∙ every-run-is-plain (before ++ (op.Advance n m ∷ after)))
+
   -- the edges reported are those of the plain machine
   one-edges : edgesIn (one .between) ≡ reported (advanceTold (at .cop0) n m)
   unfolding runBy edgesIn

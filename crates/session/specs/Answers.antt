@@ -12,6 +12,7 @@ use Rattle.addr.specs.Answers.{toldTranslate}
 use Rattle.session.specs.declared.op.Answer.{Answer}
 use Rattle.session.specs.declared.op.Answer.the-variants as answer
 
+-- values after the number of a case; none stay none
 abbrev pub after : ℕ → List ℕ → List ℕ
 after k [] = []
 after k (v ∷ vs) = k ∷ v ∷ vs
@@ -33,6 +34,7 @@ abbrev pub entryValues : Entry → List ℕ
 entryValues e =
     e .«page_mask» ∷ e .vpn2 ∷ e .asid ∷ bit (e .global) ∷ e .region ∷ halfValues (e .lo0) (halfValues (e .lo1) [])
 
+-- the cases, 0 to 7
 abbrev pub toldAnswer : Answer → Told
 toldAnswer answer.Done = done
 toldAnswer (answer.Number v) = number v
