@@ -4,7 +4,7 @@ use mathlib.Core.Bool.{Bool, true, false, _&&_, cond}
 use mathlib.Core.List.{List, [], _∷_}
 use Prim.Native.Nat.{ℕ}
 use lib.Dec.{eqb}
-use lib.ListN.{length, replicate}
+use lib.ListN.{length, take, drop, replicate}
 use lib.Seq.{paste}
 use Rattle.bits.specs.Field.{bit}
 use Rattle.bits.specs.Told.{Told, answered, refused}
@@ -51,3 +51,7 @@ installTags size bytes ls ws a = cond (sized bytes ls ws) (tagsWith size ws a (w
 -- the address that a line with this word and start is written back to, if it goes
 abbrev pub evictedIf : Bool → ℕ → ℕ → Told
 evictedIf b w start = cond b (answered (1 ∷ residentOf w start ∷ [])) nothing
+
+-- and its bytes; zeros where it stays
+abbrev pub bytesIf : ℕ → Bool → List ℕ → ℕ → List ℕ
+bytesIf size b ls start = cond b (take size (drop start ls)) (replicate size 0)

@@ -3,7 +3,7 @@ use mathlib.Core.Bool.{Bool, true, _&&_, not, cond}
 use mathlib.Core.List.{List, [], _∷_}
 use Prim.Native.Nat.{ℕ}
 use lib.Dec.{eqb}
-use lib.ListN.{length, take, drop, replicate}
+use lib.ListN.{length, take, drop}
 use lib.Seq.{paste}
 use Rattle.bits.specs.Told.{Told, answered, refused}
 use Rattle.tags.specs.Words.{tagOf, wordTag, isValid, wordOf, hitOf, leavesOf, displacedOf, flushedWord}
@@ -11,17 +11,13 @@ use Rattle.tags.specs.Places.{startOf, placeOf, wordFor, tagsWith, residentOf}
 use Rattle.lines.specs.Access.{accessRefusal}
 use Rattle.lines.specs.Bytes.{bigEndian, bytesOf}
 use Rattle.cache.specs.Answers.{nothing}
-use Rattle.cache.specs.Both.{sized, evictedIf}
+use Rattle.cache.specs.Both.{sized, evictedIf, bytesIf}
 
 abbrev pub fits : List ℕ → List ℕ → Bool
 fits ls ws = sized 8192 ls ws
 
 abbrev pub word : List ℕ → ℕ → ℕ
 word ws a = wordFor 16 ws a
-
--- the bytes of a line that leaves; zeros where none does
-abbrev pub bytesIf : Bool → List ℕ → ℕ → List ℕ
-bytesIf b ls start = cond b (take 16 (drop start ls)) (replicate 16 0)
 
 abbrev pub leaves : List ℕ → ℕ → Bool
 leaves ws a = leavesOf (word ws a)
@@ -41,7 +37,7 @@ unfoldable pub evictsOf : ℕ → ℕ → Bool
 evictsOf w a = not (hitOf w a) && leavesOf w
 
 unfoldable pub planBytes : List ℕ → List ℕ → ℕ → List ℕ
-planBytes ls ws a = bytesIf (fits ls ws && evictsOf (word ws a) a) ls (startOf 16 a)
+planBytes ls ws a = bytesIf 16 (fits ls ws && evictsOf (word ws a) a) ls (startOf 16 a)
 
 -- the first refusal of those that apply, else an answer
 abbrev pub accessed : Bool → ℕ → Told → Told
@@ -71,7 +67,7 @@ unfoldable pub flushTold : List ℕ → List ℕ → ℕ → Told
 flushTold ls ws a = cond (fits ls ws) (evictedIf (leaves ws a) (word ws a) (startOf 16 a)) (refused 1)
 
 unfoldable pub flushBytes : List ℕ → List ℕ → ℕ → List ℕ
-flushBytes ls ws a = bytesIf (fits ls ws && leaves ws a) ls (startOf 16 a)
+flushBytes ls ws a = bytesIf 16 (fits ls ws && leaves ws a) ls (startOf 16 a)
 
 -- a word that stands is stored as it was: with both flags off nothing changes
 unfoldable pub flushTags : List ℕ → List ℕ → ℕ → Bool → Bool → List ℕ
@@ -85,7 +81,7 @@ unfoldable pub createTold : List ℕ → List ℕ → ℕ → Told
 createTold ls ws a = cond (fits ls ws) (evictedIf (displaced ws a) (word ws a) (startOf 16 a)) (refused 1)
 
 unfoldable pub createBytes : List ℕ → List ℕ → ℕ → List ℕ
-createBytes ls ws a = bytesIf (fits ls ws && displaced ws a) ls (startOf 16 a)
+createBytes ls ws a = bytesIf 16 (fits ls ws && displaced ws a) ls (startOf 16 a)
 
 -- the line is the address's, valid and dirty, with the bytes that it had
 unfoldable pub createTags : List ℕ → List ℕ → ℕ → List ℕ

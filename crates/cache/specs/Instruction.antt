@@ -3,12 +3,12 @@ use mathlib.Core.Bool.{Bool, _&&_, cond}
 use mathlib.Core.List.{List, [], _∷_}
 use Prim.Native.Nat.{ℕ, _%_}
 use lib.Dec.{eqb, leb}
-use lib.ListN.{length, take, drop, replicate}
+use lib.ListN.{length, take, drop}
 use Rattle.bits.specs.Told.{Told, answered, refused}
 use Rattle.tags.specs.Words.{hitOf, invalidated}
 use Rattle.tags.specs.Places.{tagged, startOf, placeOf, wordFor, tagsWith}
 use Rattle.lines.specs.Bytes.{bigEndian}
-use Rattle.cache.specs.Both.{sized, evictedIf}
+use Rattle.cache.specs.Both.{sized, evictedIf, bytesIf}
 
 abbrev pub fits : List ℕ → List ℕ → Bool
 fits ls ws = sized 16384 ls ws
@@ -30,13 +30,9 @@ invalidateTags ws a = cond (tagged ws) (tagsWith 32 ws a (invalidated (word ws a
 unfoldable pub hitInvalidateTags : List ℕ → ℕ → List ℕ
 hitInvalidateTags ws a = cond (tagged ws) (cond (hitOf (word ws a) a) (tagsWith 32 ws a (invalidated (word ws a))) ws) ws
 
--- the bytes of a line that goes to memory; zeros where none does
-abbrev pub bytesIf : Bool → List ℕ → ℕ → List ℕ
-bytesIf b ls start = cond b (take 32 (drop start ls)) (replicate 32 0)
-
 -- a line that holds the address goes, and stays
 unfoldable pub flushTold : List ℕ → List ℕ → ℕ → Told
 flushTold ls ws a = cond (fits ls ws) (evictedIf (hitOf (word ws a) a) (word ws a) (startOf 32 a)) (refused 1)
 
 unfoldable pub flushBytes : List ℕ → List ℕ → ℕ → List ℕ
-flushBytes ls ws a = bytesIf (fits ls ws && hitOf (word ws a) a) ls (startOf 32 a)
+flushBytes ls ws a = bytesIf 32 (fits ls ws && hitOf (word ws a) a) ls (startOf 32 a)

@@ -4,8 +4,8 @@ ghost use Prim.Native.Nat.{_+_, _*_, _%_, _≤_};
 ghost use lib.ListN.{length, replicate};
 ghost use Rattle.bits.specs.Told.{refused};
 ghost use Rattle.cache.specs.Answers.{toldDone, toldAsked, toldValue, toldPlan, toldWriteback};
-ghost use Rattle.cache.specs.Both.{hitsTold, loadTold, residentTold, tagsTold, storeTags, bothTold, freshPart, installBytes, installTags, evictedIf};
-ghost use Rattle.cache.specs.Data.{bytesIf, plannedOf, evictsOf, planTold, planBytes, readTold, writeTold, writeBytes, writeTags, flushTold, flushBytes, flushTags, createTold, createBytes, createTags};
+ghost use Rattle.cache.specs.Both.{hitsTold, loadTold, residentTold, tagsTold, storeTags, bothTold, freshPart, installBytes, installTags, evictedIf, bytesIf};
+ghost use Rattle.cache.specs.Data.{plannedOf, evictsOf, planTold, planBytes, readTold, writeTold, writeBytes, writeTags, flushTold, flushBytes, flushTags, createTold, createBytes, createTags};
 use crate::answers::Asked;
 use crate::answers::DataWriteback;
 use crate::answers::Done;
@@ -119,8 +119,8 @@ pub fn store_tag(tags: &mut [u32], addr: u32, tag_lo: u32) -> Done
     both::store_tag(tags, addr, tag_lo, 16, VALID_STATE)
 }
 
-// Takes the line for write-back, if it is dirty. `clean` clears the dirty flag and leaves the line resident; `invalidate` clears
-// both flags.
+// Takes the line for write-back, if it is valid and dirty. `clean` clears the dirty flag and leaves the line resident;
+// `invalidate` clears both flags.
 pub fn flush_index(
     lines: &[u8],
     tags: &mut [u32],
@@ -191,7 +191,7 @@ fn evicts(word: u32, addr: u32) -> bool
 // The line that starts there, if it leaves.
 fn writeback(lines: &[u8], word: u32, start: usize, leaves: bool) -> DataWriteback
     requires { ⌜ start + 16 ≤ length (now lines) ⌝ }
-    ensures { λ r. ⌜ (toldWriteback (r .answer) ≡ evictedIf leaves word start) × (r .«data» ≡ bytesIf leaves (now (lines .entry)) start) ⌝ }
+    ensures { λ r. ⌜ (toldWriteback (r .answer) ≡ evictedIf leaves word start) × (r .«data» ≡ bytesIf 16 leaves (now (lines .entry)) start) ⌝ }
 {
     DataWriteback {
         answer: both::evicted(leaves, word, start),

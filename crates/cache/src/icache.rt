@@ -4,8 +4,8 @@ ghost use Prim.Native.Nat.{_+_, _*_, _%_, _≤_};
 ghost use lib.ListN.{length, replicate};
 ghost use Rattle.bits.specs.Told.{refused};
 ghost use Rattle.cache.specs.Answers.{toldDone, toldAsked, toldValue, toldWriteback};
-ghost use Rattle.cache.specs.Both.{hitsTold, loadTold, residentTold, tagsTold, storeTags, bothTold, freshPart, installBytes, installTags, evictedIf};
-ghost use Rattle.cache.specs.Instruction.{bytesIf, wordTold, invalidateTags, hitInvalidateTags, flushTold, flushBytes};
+ghost use Rattle.cache.specs.Both.{hitsTold, loadTold, residentTold, tagsTold, storeTags, bothTold, freshPart, installBytes, installTags, evictedIf, bytesIf};
+ghost use Rattle.cache.specs.Instruction.{wordTold, invalidateTags, hitInvalidateTags, flushTold, flushBytes};
 use crate::answers::Asked;
 use crate::answers::Done;
 use crate::answers::InstructionWriteback;
@@ -126,7 +126,7 @@ pub fn resident_addr(tags: &[u32], index: usize) -> Value
 // The line that starts there, if it goes.
 fn writeback(lines: &[u8], word: u32, start: usize, goes: bool) -> InstructionWriteback
     requires { ⌜ start + 32 ≤ length (now lines) ⌝ }
-    ensures { λ r. ⌜ (toldWriteback (r .answer) ≡ evictedIf goes word start) × (r .«data» ≡ bytesIf goes (now (lines .entry)) start) ⌝ }
+    ensures { λ r. ⌜ (toldWriteback (r .answer) ≡ evictedIf goes word start) × (r .«data» ≡ bytesIf 32 goes (now (lines .entry)) start) ⌝ }
 {
     InstructionWriteback {
         answer: both::evicted(goes, word, start),
