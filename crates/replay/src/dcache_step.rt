@@ -2,8 +2,6 @@
 use crate::cache_answers::of_asked;
 use crate::cache_answers::of_done;
 use crate::cache_answers::of_value;
-use crate::dcache_step;
-use crate::icache_step;
 use crate::operand::flag;
 use crate::operand::word;
 use crate::operations;

@@ -1,4 +1,5 @@
 // What an operation answers, as a row of the answers' table and the numbers that go into it.
+
 // The most numbers that an answer has.
 pub const MOST: usize = 14;
 
