@@ -1,4 +1,4 @@
--- The access that Status asks for. Its fields (UM §6.3.5): KX 7, SX 6, UX 5, KSU 4..3, ERL 2, EXL 1.
+-- The access that Status asks for. Its fields (6.3.5): KX 7, SX 6, UX 5, KSU 4..3, ERL 2, EXL 1.
 use mathlib.Core.Bool.{false, _||_, cond}
 use mathlib.Core.List.{[], _∷_}
 use Prim.Native.Nat.{ℕ}

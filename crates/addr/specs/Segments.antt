@@ -1,4 +1,4 @@
--- The segments of each mode and width: tables of first and last addresses, both inside (UM §5.2.4, tables 5-3 and 5-4).
+-- The segments of each mode and width: tables of first and last addresses, both inside (5.2.4, tables 5-3 and 5-4).
 use mathlib.Core.Bool.{Bool, true, false, _&&_, cond}
 use mathlib.Core.List.{List, [], _∷_}
 use Prim.Native.Nat.{ℕ}

@@ -15,7 +15,7 @@ pub struct Access {
     pub mode: Mode,
     // Status.KX, SX or UX: the bit of this mode. One flag rather than three, since only this one ever applies.
     pub wide: bool,
-    // Status.ERL, which makes the first 2 GB direct and uncached (UM §5.2.2).
+    // Status.ERL, which makes the first 2 GB direct and uncached (5.2.2).
     pub erl: bool,
 }
 

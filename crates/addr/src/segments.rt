@@ -25,11 +25,11 @@ pub enum Segment {
 }
 
 impl Access {
-    // The segment of an address (UM §5.2.4, tables 5-3 and 5-4): the half of translation that needs no TLB.
+    // The segment of an address (5.2.4, tables 5-3 and 5-4): the half of translation that needs no TLB.
     pub fn segment(self, vaddr: u64) -> Segment
         ensures { λ r. ⌜ toldSegment r ≡ toldSegment (segmentOf self vaddr) ⌝ }
     {
-        // Cold reset sets ERL, so this is how every boot starts (UM §5.2.2). The whole address is compared: 1_0000_1000 is
+        // Cold reset sets ERL, so this is how every boot starts (5.2.2). The whole address is compared: 1_0000_1000 is
         // past the 2 GB, though its low word is not.
         if self.erl && within(vaddr, 0, USEG_LAST) {
             return direct(vaddr, 31, Cached::No);
@@ -141,7 +141,7 @@ fn compat_kernel_segment(v: u64) -> Segment
 }
 
 // One of XKPHYS's eight windows on physical memory, which differ only in their C field: as in a TLB entry, only C 2 is
-// uncached (UM table 5-6).
+// uncached (table 5-6).
 fn xkphys(v: u64) -> Segment
     ensures { λ r. ⌜ toldSegment r ≡ toldSegment (how xkphys v) ⌝ }
 {

@@ -9,6 +9,7 @@ pub enum AdvanceAnswer {
     Refused(u8),
 }
 
+// The answer, and the record after it.
 pub struct Advanced {
     pub answer: AdvanceAnswer,
     pub cop0: Cop0,

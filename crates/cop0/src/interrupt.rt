@@ -17,7 +17,7 @@ impl Cop0 {
     }
 
     // Is an interrupt taken now? Interrupts are on (IE), no handler runs (EXL and ERL clear, or a handler would be entered
-    // again and again), and a pending bit is not masked.
+    // again and again), and a pending bit is not masked (6.3.5; figure 14-4).
     pub fn interrupt_pending(self) -> bool
         ensures { λ r. ⌜ r ≡ interruptPendingOf self ⌝ }
     {

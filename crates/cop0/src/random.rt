@@ -5,7 +5,7 @@ use crate::registers::Cop0;
 
 impl Cop0 {
     // One step. The reload is at Wired and nowhere else, and the count down wraps from 0 to 63: with Wired above 31 the
-    // counter goes through its whole range.
+    // counter was measured to go from 31 to 0, and then from 63 to Wired.
     pub fn tick_random(self) -> Cop0
         ensures { λ r. ⌜ r ≡ tickRandomOf self ⌝ }
     {
@@ -18,7 +18,7 @@ impl Cop0 {
     }
 
     // `n` steps at once: the walk from Random down to Wired, and then a cycle that is entered at 31. Both lengths are taken
-    // modulo 64, since software can write a Wired above 31 or above Random.
+    // modulo 64, since software can write a Wired above 31, which is above Random.
     pub fn tick_random_by(self, n: u64) -> Cop0
         ensures { λ r. ⌜ r ≡ tickRandomByOf self n ⌝ }
     {

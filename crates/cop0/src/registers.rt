@@ -103,8 +103,8 @@ impl Cop0 {
     // Where an error exception returns to.
     pub const ERROR_EPC: u8 = 30;
 
-    // The eight registers of 64 bits, a bit for each; the other 24 have 32. No rule makes this list: they are those that
-    // hold an address or a TLB entry.
+    // The eight registers of 64 bits, a bit for each (table 1-2); the other 24 have 32. No rule makes this list: they are
+    // those that hold an address or a TLB entry.
     pub const WIDE: u32 = (1 << Self::ENTRY_LO0)
         | (1 << Self::ENTRY_LO1)
         | (1 << Self::CONTEXT)
@@ -114,10 +114,12 @@ impl Cop0 {
         | (1 << Self::XCONTEXT)
         | (1 << Self::ERROR_EPC);
 
-    // The numbers "reserved for future use": one shared latch and no storage.
+    // The numbers "reserved for future use" (table 1-2). The hardware was measured to have one shared latch there, and no
+    // storage.
     pub const UNUSED: [u8; 7] = [7, 21, 22, 23, 24, 25, 31];
 
-    // The bits that software can write. A 0 bit is wired, reserved or the hardware's own, and keeps its value.
+    // The bits that software can write. A 0 bit is wired, reserved or the hardware's own, and keeps its value. Which bits
+    // these are, and by which figure, is in specs/Registers.antt, for this table and the next.
     pub const WRITE_MASK: [u64; 32] = [
         0x8000_003F, // Index
         0, // Random
@@ -240,7 +242,7 @@ impl Cop0 {
             return self.count() as u64;
         }
         let own = self.reg(n) & Self::arch_mask(n);
-        // Config's wired bits are joined here and not stored, so that no write can erase them (figure 5-16).
+        // With EC and the wired bits (figure 5-16).
         if k == Self::CONFIG {
             return own | (self.ec as u64 * 0x1000_0000) | 0x0006_6460;
         }

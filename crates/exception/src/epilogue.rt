@@ -20,11 +20,11 @@ pub struct Dispatched {
     pub cop0: Cop0,
 }
 
-// The stall when an exception is taken (UM §4.7).
+// The stall when an exception is taken (4.7).
 pub const EPILOGUE_STALL: u32 = 2;
 
 // ExcCode and CE. The first exception also records where to return to, in EPC and BD; a nested one (EXL is 1 already) leaves
-// both, or the handler that it interrupts could never return (UM §6.3.7).
+// both, or the handler that it interrupts could never return (6.3.7).
 pub(crate) fn record(cop0: Cop0, exc: Exception, pc: u64, in_delay_slot: bool) -> Cop0
     ensures { λ r. ⌜ r ≡ recorded cop0 exc pc «in_delay_slot» ⌝ }
 {

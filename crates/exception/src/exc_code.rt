@@ -1,4 +1,4 @@
-// Cause.ExcCode's values (UM table 6-2): the whole list, with those that this machine cannot reach, so that a value read out of
+// Cause.ExcCode's values (table 6-2): the whole list, with those that this machine cannot reach, so that a value read out of
 // Cause can always be named.
 
 // Interrupt.

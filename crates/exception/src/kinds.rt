@@ -9,7 +9,7 @@ pub enum Exception {
     // An interrupt was accepted: a pending bit is not masked, IE is 1, EXL and ERL are 0.
     Interrupt,
     // An address that is not aligned, or not of the access's mode. An instruction fetch is a load; loads and stores have
-    // codes of their own (UM table 6-2).
+    // codes of their own (table 6-2).
     AddressError { store: bool },
     // Integer overflow.
     Overflow,
@@ -25,7 +25,7 @@ pub enum Exception {
     CoprocessorReserved { unit: u8 },
     // An instruction of a coprocessor that Status.CU turns off.
     CoprocessorUnusable { unit: u8 },
-    // The non-maskable interrupt (UM §6.4.6). It has no code: `nmi` says what it does.
+    // The non-maskable interrupt (6.4.6). It has no code: `nmi` says what it does.
     Nmi,
     // No TLB entry matched. `wide` is the addressing width of the access that missed. It is told and not read from Status,
     // which answers for the handler's mode as soon as EXL is set.
@@ -104,7 +104,7 @@ pub fn vector_kind_of(exc: Exception) -> VectorKind
     }
 }
 
-// Does this exception write BadVAddr? Only those that have a faulting address do: address errors and TLB faults (UM §6.3.2).
+// Does this exception write BadVAddr? Only those that have a faulting address do: address errors and TLB faults (6.3.2).
 pub fn writes_bad_vaddr(exc: Exception) -> bool
     ensures { λ r. ⌜ r ≡ writesBadVaddrOf exc ⌝ }
 {

@@ -10,7 +10,7 @@ pub struct Returned {
     pub cop0: Cop0,
 }
 
-// `ERET` (UM chapter 16): from an error level handler by ErrorEPC, else by EPC, and clears the bit of that level alone. The
+// `ERET` (chapter 16): from an error level handler by ErrorEPC, else by EPC, and clears the bit of that level alone. The
 // caller clears the LL bit, which is not among these registers.
 pub fn eret(cop0: Cop0) -> Returned
     ensures { λ r. ⌜ r ≡ eretOf cop0 ⌝ }

@@ -11,7 +11,7 @@ use crate::vectors;
 use crate::vectors::VectorKind;
 use cop0::Cop0;
 
-// Takes an exception (UM figure 6-14): records its cause and, where it has one, its faulting address, sets EXL, and tells where
+// Takes an exception (figure 6-14): records its cause and, where it has one, its faulting address, sets EXL, and tells where
 // to fetch next. `pc` is the address of the instruction that faulted.
 pub fn dispatch(
     cop0: Cop0,
@@ -36,9 +36,9 @@ pub fn dispatch(
     entering(vector, epilogue::enter(caused))
 }
 
-// The non-maskable interrupt (UM §6.4.6). It keeps every register but ErrorEPC and four bits of Status: ERL, and SR, by which
-// a handler knows it from a cold reset, and BEV and TS as after a reset. It belongs to no instruction, so that there is no
-// delay slot to step back from.
+// The non-maskable interrupt (6.4.6). It keeps every register but ErrorEPC and four bits of Status: ERL, and SR, by which a
+// handler knows it from a cold reset, and BEV and TS as after a reset. It belongs to no instruction, so that there is no delay
+// slot to step back from.
 pub fn nmi(cop0: Cop0, pc: u64) -> Dispatched
     ensures { λ r. ⌜ r ≡ nmiOf cop0 pc ⌝ }
 {

@@ -14,7 +14,7 @@ pub enum VectorKind {
     Reset,
 }
 
-// The address of a vector (UM tables 6-3 and 6-4), by Status from before the exception.
+// The address of a vector (tables 6-3 and 6-4), by Status from before the exception.
 pub fn vector(status: u64, kind: VectorKind) -> u64
     ensures { λ r. ⌜ r ≡ vectorOf status kind ⌝ }
 {
@@ -47,7 +47,7 @@ fn base(status: u64) -> u64
     0xFFFF_FFFF_8000_0000
 }
 
-// A refill with EXL (1) already set takes the common vector. Figure 6-15 says 0x080 there; both tables and §6.4.8 say otherwise.
+// A refill with EXL (1) already set takes the common vector. Figure 6-15 says 0x080 there; both tables and 6.4.8 say otherwise.
 fn refill_offset(status: u64, own: u64) -> u64
     ensures { λ r. ⌜ r ≡ refillOffsetOf status own ⌝ }
 {

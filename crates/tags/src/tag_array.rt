@@ -13,7 +13,7 @@ pub fn is_whole(tags: &[u32]) -> bool
     tags.len() == LINES
 }
 
-// The line of an address. No line has no bytes: size 0 is line 0.
+// The line of an address. A size of 0, which no cache has, gives line 0.
 pub fn index(addr: u32, size: u32) -> usize
     ensures { λ r. ⌜ r ≡ indexOf size addr ⌝ }
 {

@@ -41,6 +41,7 @@ pub enum TlbFault {
     Modified,
 }
 
+// A physical address, and whether it bypasses the caches.
 pub struct Translated {
     pub addr: u32,
     pub uncached: bool,
@@ -100,7 +101,8 @@ pub(crate) fn page_bytes(mask: u32) -> u64
 
 impl Entry {
     // Does the entry match? The valid bits have no part in it, so an invalid entry is found and gives Invalid, and two of
-    // them clash (5.4.9).
+    // them clash (5.4.9). Nor have address bits 61..40: EntryHi does not hold them, and they are ones in a 32-bit kernel
+    // address, which comes sign-extended.
     pub(crate) fn matches(self, vaddr: u64, asid: u8) -> bool
         ensures { λ r. ⌜ r ≡ matchesOf self vaddr asid ⌝ }
     {

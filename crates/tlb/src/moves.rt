@@ -45,7 +45,8 @@ impl Tlb {
     }
 }
 
-// Six pairs of bits from bit 13 up: each is stored as 11 where its upper bit was written, and as 00 otherwise.
+// Six pairs of bits from bit 13 up: each is stored as 11 where its upper bit was written, and as 00 otherwise, as the hardware
+// was measured to do with masks that table 5-7 lacks.
 fn canonical_page_mask(mask: u64) -> u32
     ensures { λ r. ⌜ r ≡ canonicalOf mask ⌝ }
 {

@@ -17,7 +17,7 @@ pub struct Tlb {
     // The micro-TLB: two entry numbers, 32 for an empty slot. Numbers and no copies, so that it cannot serve an entry that
     // was written since.
     pub itlb: [u8; 2],
-    // The slot that the next fill takes.
+    // The slot that the next fill takes: the one not used last (1.5.1).
     pub itlb_lru: u8,
     // Two entries matched: the TLB is unusable until reset (5.1).
     pub shutdown: bool,
