@@ -1,6 +1,5 @@
 -- `Cop0::timer_edge` compares the two distances and moves the mark.
 use mathlib.Core.Path.{sym, _∙_}
-use Prim.Native.Nat.{_-_}
 use borrow.Author.Tests.{le-leb, lt-leb}
 use borrow.Author.Needs.{needs}
 use Rattle.cop0.proofs.Wrapping.{difference}

@@ -1,3 +1,4 @@
+-- `Session::advance` tells what the call answers and puts its registers back.
 use borrow.Author.Needs.{needs}
 use Rattle.session.proofs.session.Session.advance.Statement.{statement}
 use Rattle.session.proofs.session.Session.advance.Tie as tie

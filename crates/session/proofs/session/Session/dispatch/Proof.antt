@@ -1,3 +1,4 @@
+-- `Session::dispatch` tells what the call answers and puts its registers back.
 use borrow.Author.Needs.{needs}
 use Rattle.session.proofs.session.Session.dispatch.Statement.{statement}
 use Rattle.session.proofs.session.Session.dispatch.Tie as tie

@@ -1,3 +1,4 @@
+-- `Session::dmfc0` tells what the call answers.
 use borrow.Author.Needs.{needs}
 use Rattle.session.proofs.session.Session.dmfc0.Statement.{statement}
 use Rattle.session.proofs.session.Session.dmfc0.Tie as tie

@@ -1,3 +1,4 @@
+-- `Session::dmtc0` puts back the registers that the call made.
 use borrow.Author.Needs.{needs}
 use Rattle.session.proofs.session.Session.dmtc0.Statement.{statement}
 use Rattle.session.proofs.session.Session.dmtc0.Tie as tie

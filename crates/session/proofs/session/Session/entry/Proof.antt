@@ -1,3 +1,4 @@
+-- `Session::entry` tells what the call answers.
 use borrow.Author.Needs.{needs}
 use Rattle.session.proofs.session.Session.entry.Statement.{statement}
 use Rattle.session.proofs.session.Session.entry.Tie as tie

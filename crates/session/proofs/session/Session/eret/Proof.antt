@@ -1,3 +1,4 @@
+-- `Session::eret` tells what the call answers and puts its registers back.
 use borrow.Author.Needs.{needs}
 use Rattle.session.proofs.session.Session.eret.Statement.{statement}
 use Rattle.session.proofs.session.Session.eret.Tie as tie

@@ -1,3 +1,4 @@
+-- `Session::interrupt_pending` tells what the call answers.
 use borrow.Author.Needs.{needs}
 use Rattle.session.proofs.session.Session.interrupt_pending.Statement.{statement}
 use Rattle.session.proofs.session.Session.interrupt_pending.Tie as tie

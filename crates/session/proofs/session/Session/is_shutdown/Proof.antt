@@ -1,3 +1,4 @@
+-- `Session::is_shutdown` tells what the call answers.
 use borrow.Author.Needs.{needs}
 use Rattle.session.proofs.session.Session.is_shutdown.Statement.{statement}
 use Rattle.session.proofs.session.Session.is_shutdown.Tie as tie

@@ -1,3 +1,4 @@
+-- `Session::itlb_fill` puts back the table that the call made.
 use borrow.Author.Needs.{needs}
 use Rattle.session.proofs.session.Session.itlb_fill.Statement.{statement}
 use Rattle.session.proofs.session.Session.itlb_fill.Tie as tie

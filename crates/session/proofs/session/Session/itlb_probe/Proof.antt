@@ -1,3 +1,4 @@
+-- `Session::itlb_probe` tells what the call answers and puts its table back.
 use borrow.Author.Needs.{needs}
 use Rattle.session.proofs.session.Session.itlb_probe.Statement.{statement}
 use Rattle.session.proofs.session.Session.itlb_probe.Tie as tie

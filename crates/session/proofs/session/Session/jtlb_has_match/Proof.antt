@@ -1,3 +1,4 @@
+-- `Session::jtlb_has_match` tells what the call answers.
 use borrow.Author.Needs.{needs}
 use Rattle.session.proofs.session.Session.jtlb_has_match.Statement.{statement}
 use Rattle.session.proofs.session.Session.jtlb_has_match.Tie as tie

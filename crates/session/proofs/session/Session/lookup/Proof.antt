@@ -1,3 +1,4 @@
+-- `Session::lookup` tells what the call answers and puts its table back.
 use borrow.Author.Needs.{needs}
 use Rattle.session.proofs.session.Session.lookup.Statement.{statement}
 use Rattle.session.proofs.session.Session.lookup.Tie as tie

@@ -1,3 +1,4 @@
+-- `Session::mfc0` tells what the call answers.
 use borrow.Author.Needs.{needs}
 use Rattle.session.proofs.session.Session.mfc0.Statement.{statement}
 use Rattle.session.proofs.session.Session.mfc0.Tie as tie

@@ -1,3 +1,4 @@
+-- `Session::new` joins a fresh register file and a fresh table.
 use borrow.Author.Needs.{needs}
 use Rattle.session.proofs.session.Session.new.Statement.{statement}
 use Rattle.session.proofs.session.Session.new.Tie as tie

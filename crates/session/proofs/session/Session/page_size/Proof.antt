@@ -1,3 +1,4 @@
+-- `Session::page_size` tells what the call answers.
 use borrow.Author.Needs.{needs}
 use Rattle.session.proofs.session.Session.page_size.Statement.{statement}
 use Rattle.session.proofs.session.Session.page_size.Tie as tie

@@ -1,3 +1,4 @@
+-- `Session::pair_size` tells what the call answers.
 use borrow.Author.Needs.{needs}
 use Rattle.session.proofs.session.Session.pair_size.Statement.{statement}
 use Rattle.session.proofs.session.Session.pair_size.Tie as tie

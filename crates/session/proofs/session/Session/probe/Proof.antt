@@ -1,3 +1,4 @@
+-- `Session::probe` puts back the registers that the call made.
 use borrow.Author.Needs.{needs}
 use Rattle.session.proofs.session.Session.probe.Statement.{statement}
 use Rattle.session.proofs.session.Session.probe.Tie as tie

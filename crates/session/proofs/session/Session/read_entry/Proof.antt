@@ -1,3 +1,4 @@
+-- `Session::read_entry` puts back the registers that the call made.
 use borrow.Author.Needs.{needs}
 use Rattle.session.proofs.session.Session.read_entry.Statement.{statement}
 use Rattle.session.proofs.session.Session.read_entry.Tie as tie

@@ -1,3 +1,4 @@
+-- `Session::set_ip` puts back the registers that the call made.
 use borrow.Author.Needs.{needs}
 use Rattle.session.proofs.session.Session.set_ip.Statement.{statement}
 use Rattle.session.proofs.session.Session.set_ip.Tie as tie

@@ -1,3 +1,4 @@
+-- `Session::step` runs the method of each operation.
 use borrow.Author.Needs.{needs}
 use Rattle.session.proofs.session.Session.step.Statement.{statement}
 use Rattle.session.proofs.session.Session.step.Tie as tie

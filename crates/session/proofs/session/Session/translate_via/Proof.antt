@@ -1,3 +1,4 @@
+-- `Session::translate_via` tells what the call answers and puts its table back.
 use borrow.Author.Needs.{needs}
 use Rattle.session.proofs.session.Session.translate_via.Statement.{statement}
 use Rattle.session.proofs.session.Session.translate_via.Tie as tie

@@ -1,3 +1,4 @@
+-- `Session::write_entry` puts back the table that the call made.
 use borrow.Author.Needs.{needs}
 use Rattle.session.proofs.session.Session.write_entry.Statement.{statement}
 use Rattle.session.proofs.session.Session.write_entry.Tie as tie
