@@ -14,7 +14,7 @@ unfolding freshFrom
 long zero i = refl
 long (suc n) i = ap suc (long n (suc i))
 
-at : (n i k : ℕ) → k < n → getD (freshFrom i n) k (withVpn2 0) ≡ freshEntry (i + k)
+pub at : (n i k : ℕ) → k < n → getD (freshFrom i n) k (withVpn2 0) ≡ freshEntry (i + k)
 unfolding freshFrom
 at zero i k h = absurd (not-suc-le-zero h)
 at (suc n) i zero h = ap freshEntry (sym (add-zero i))

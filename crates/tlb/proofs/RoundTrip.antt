@@ -44,13 +44,13 @@ module _ (r w a : ℕ) (hr : r < 2 ^ 2) (hw : w < 2 ^ 27) (ha : a < 2 ^ 8) where
 
 -- the same of EntryHi v under PageMask x: the mask leaves of VPN2 a number below 2^27, at bit 13
 module _ (x v : ℕ) where
-  abbrev left : ℕ
+  abbrev pub left : ℕ
   left = mergedBits 51 (pairs 6 (x / 2 ^ 13)) 0 (fieldOf v 39 13)
 
-  left-at : vpn2Of (canonicalOf x) v ≡ left * 2 ^ 13
+  pub left-at : vpn2Of (canonicalOf x) v ≡ left * 2 ^ 13
   left-at = merged-shift 13 51 (pairs 6 (x / 2 ^ 13)) 0 (fieldOf v 39 13)
 
-  left-lt : left < 2 ^ 27
+  pub left-lt : left < 2 ^ 27
   left-lt = lt-of-le-of-lt (cleared-le 51 (pairs 6 (x / 2 ^ 13)) (fieldOf v 39 13)) (field-lt v 39 13)
 
   abbrev hi : ℕ

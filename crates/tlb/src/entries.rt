@@ -129,7 +129,7 @@ impl Entry {
     }
 
     // What the one matching entry answers.
-    pub(crate) fn answer(self, vaddr: u64, store: bool) -> LookupAnswer
+    pub fn answer(self, vaddr: u64, store: bool) -> LookupAnswer
         ensures { λ r. ⌜ r ≡ entryAnswer self vaddr store ⌝ }
     {
         let half = self.half(vaddr);

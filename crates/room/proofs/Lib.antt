@@ -1,0 +1,10 @@
+pub mod Left
+pub mod Writing
+pub mod PuttingBack
+pub mod Matching
+pub mod Words
+pub mod Crossing
+pub mod Parts
+pub mod Tables
+pub mod Sessions
+pub mod Unique

@@ -1,0 +1,25 @@
+-- `room_dcache_write` passes both parts on to `dcache::write`, and tells its number.
+use borrow.Author.Needs.{needs}
+use Rattle.room.proofs.dcache.room_dcache_write.Statement.{statement}
+use Rattle.room.proofs.dcache.room_dcache_write.Tie as tie
+
+write-requires : tie.Need-write-requires
+write-requires c κs = search needs
+
+done-of-requires : tie.Need-done-of-requires
+done-of-requires c κs = search needs
+
+same-length : tie.Need-same-length
+same-length c = search needs
+
+same-length-2 : tie.Need-same-length-2
+same-length-2 c = search needs
+
+returns : tie.Need-returns
+returns c =
+    let e = c .before .before .before .before .before .write .ensures in
+    (rw (e .0) at (c .done-of .ensures), e .1, e .2)
+
+pub room-dcache-write-spec : {M : Type 1} → statement M
+room-dcache-write-spec =
+    tie.close (tie.spec write-requires done-of-requires same-length same-length-2 returns)
