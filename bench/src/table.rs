@@ -1,0 +1,53 @@
+//! The table: times from here, instruction counts as they are handed in.
+
+use crate::counts::{self, Counts};
+use crate::operations::{OPERATIONS, Operation, Run};
+
+/// Calls in one round, and rounds; of these the fastest counts. The sides take turns.
+const CALLS: u64 = 1 << 16;
+const ROUNDS: usize = 9;
+
+/// Prints a line for each operation. Answers those whose sides differ.
+pub fn print(counts: &Counts) -> Vec<&'static str> {
+    println!(
+        "{:<38} {:>9} {:>9} {:>6}   {:>9} {:>9} {:>6}",
+        "operation", "original", "ours", "ratio", "original", "ours", "ratio"
+    );
+    println!("{:<38} {:>26}   {:>26}", "", "ns, with the loop", "instructions, without");
+    let mut differ = Vec::new();
+    for operation in OPERATIONS {
+        match time(operation) {
+            Some(times) => {
+                let counted = counts::of(counts, operation.name);
+                println!("{:<38} {}   {}", operation.what, cells(Some(times)), cells(counted));
+            }
+            None => differ.push(operation.name),
+        }
+    }
+    differ
+}
+
+/// Nanoseconds for a call of the original and of ours, if their checksums are the same.
+fn time(operation: &Operation) -> Option<(f64, f64)> {
+    let mut best = (f64::MAX, f64::MAX);
+    for _ in 0..ROUNDS {
+        let (original, ours) = ((operation.original)(CALLS), (operation.ours)(CALLS));
+        if original.checksum != ours.checksum {
+            return None;
+        }
+        best = (best.0.min(nanoseconds(&original)), best.1.min(nanoseconds(&ours)));
+    }
+    Some(best)
+}
+
+fn nanoseconds(run: &Run) -> f64 {
+    run.time.as_nanos() as f64 / CALLS as f64
+}
+
+/// The original's number, ours, and how many times the original's ours is.
+fn cells(pair: Option<(f64, f64)>) -> String {
+    let Some((original, ours)) = pair else {
+        return format!("{:>9} {:>9} {:>6}", "-", "-", "-");
+    };
+    format!("{original:>9.1} {ours:>9.1} {:>6.2}", ours / original)
+}
