@@ -1,45 +1,39 @@
--- A write to lent registers, by the register that it goes to.
+-- What a write does besides, to lent registers, by the register that it goes to.
 use mathlib.Core.Path.{_≡_, refl}
 use mathlib.Core.Bool.{false}
 use mathlib.Core.List.{List}
 use Prim.Native.Nat.{ℕ}
-use lib.ListN.{getD, set}
-use Rattle.bits.specs.Mask.{merged}
+use lib.ListN.{set}
+use borrow.Author.Tests.{eq-eqb, ne-eqb}
 use Rattle.bits.specs.Extension.{low32Of}
 use Rattle.cop0.specs.declared.registers.Cop0.{Cop0}
-use Rattle.cop0.specs.Registers.{Random, Wired, Count, Compare, writeMask}
-use Rattle.cop0.specs.Record.{reg, withReg, withEpoch}
+use Rattle.cop0.specs.Registers.{Random, Wired, Count, Compare}
+use Rattle.cop0.specs.Record.{withEpoch}
 use Rattle.cop0.specs.Interrupt.{setIpOf}
 use Rattle.cop0.specs.Clock.{asked}
-use Rattle.cop0.specs.File.{writeAt}
-use Rattle.cop0.proofs.FileLaws.{to-count, to-compare, to-wired, to-other}
+use Rattle.cop0.specs.File.{besides}
 use Rattle.room.specs.declared.registers.Clock.{Clock}
 use Rattle.room.specs.Registers.{cop0In, clockOf, still, blank}
 
--- x has been stored in register n
-module _ (rs : List ℕ) (k : Clock) (n v m x : ℕ) (em : m ≡ writeMask n) (ex : x ≡ merged m v (getD rs n 0)) where
-  abbrev c : Cop0
-  c = cop0In rs k
+module _ (rs : List ℕ) (k : Clock) (n v : ℕ) where
+  -- the clock and the registers are what is left
+  abbrev Settled : Clock → List ℕ → Type 0
+  Settled k′ rs′ = (k′ ≡ clockOf (besides n v (cop0In rs k))) × (rs′ ≡ besides n v (cop0In rs k) .regs)
 
-  abbrev w : Cop0
-  w = withReg c n x
+  pub count-settled : (l : ℕ) → l ≡ low32Of v → n ≡ Count
+      → Settled (clockOf (asked (cop0In blank (clockOf (withEpoch (cop0In blank k) l (k .now)))))) rs
+  unfolding besides asked
+  count-settled l el e = rw (el, eq-eqb n Count e) (refl, refl)
 
-  -- the clock and the registers are those of the write
-  abbrev Written : Clock → List ℕ → Type 0
-  Written k′ rs′ = (k′ ≡ clockOf (writeAt c n v)) × (rs′ ≡ writeAt c n v .regs)
+  pub compare-settled : (n ≡ Count → ⊥) → n ≡ Compare
+      → Settled (clockOf (asked (cop0In blank k))) (setIpOf (cop0In rs still) 7 false .regs)
+  unfolding besides asked setIpOf
+  compare-settled e₁ e₂ = rw (ne-eqb n Count e₁, eq-eqb n Compare e₂) (refl, refl)
 
-  pub count-written : (l : ℕ) → l ≡ low32Of v → n ≡ Count
-      → Written (clockOf (asked (cop0In blank (clockOf (withEpoch (cop0In blank k) l (k .now)))))) (set rs n x)
-  unfolding asked
-  count-written l el e = rw (← to-count c w n v x m (reg c n) em refl ex refl l el e) (refl, refl)
+  pub wired-settled : (n ≡ Count → ⊥) → (n ≡ Compare → ⊥) → n ≡ Wired → Settled k (set rs Random 31)
+  unfolding besides
+  wired-settled e₁ e₂ e₃ = rw (ne-eqb n Count e₁, ne-eqb n Compare e₂, eq-eqb n Wired e₃) (refl, refl)
 
-  pub compare-written : (n ≡ Count → ⊥) → n ≡ Compare
-      → Written (clockOf (asked (cop0In blank k))) (setIpOf (cop0In (set rs n x) still) 7 false .regs)
-  unfolding asked setIpOf
-  compare-written e₁ e₂ = rw (← to-compare c w n v x m (reg c n) em refl ex refl e₁ e₂) (refl, refl)
-
-  pub wired-written : (n ≡ Count → ⊥) → (n ≡ Compare → ⊥) → n ≡ Wired → Written k (set (set rs n x) Random 31)
-  wired-written e₁ e₂ e₃ = rw (← to-wired c w n v x m (reg c n) em refl ex refl e₁ e₂ e₃) (refl, refl)
-
-  pub other-written : (n ≡ Count → ⊥) → (n ≡ Compare → ⊥) → (n ≡ Wired → ⊥) → Written k (set rs n x)
-  other-written e₁ e₂ e₃ = rw (← to-other c w n v x m (reg c n) em refl ex refl e₁ e₂ e₃) (refl, refl)
+  pub other-settled : (n ≡ Count → ⊥) → (n ≡ Compare → ⊥) → (n ≡ Wired → ⊥) → Settled k rs
+  unfolding besides
+  other-settled e₁ e₂ e₃ = rw (ne-eqb n Count e₁, ne-eqb n Compare e₂, ne-eqb n Wired e₃) (refl, refl)

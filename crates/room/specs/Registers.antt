@@ -3,6 +3,8 @@ use mathlib.Core.List.{List, [], _∷_}
 use Prim.Native.Nat.{ℕ}
 use lib.ListN.{getD, set, replicate}
 use Rattle.cop0.specs.declared.registers.Cop0.{Cop0}
+use Rattle.bits.specs.Mask.{merged}
+use Rattle.cop0.specs.Registers.{writeMask}
 use Rattle.cop0.specs.Clock.{edgeOf, asked}
 use Rattle.room.specs.declared.registers.Clock.{Clock}
 use Rattle.room.specs.declared.clock.Polled.{Polled}
@@ -42,6 +44,10 @@ blank = replicate 32 0
 
 abbrev pub polledIn : List ℕ → Clock → Polled
 polledIn rs k = record { edge = edgeOf (cop0In rs k); clock = clockOf (asked (cop0In rs k)) }
+
+-- register n below 32 with the bits under its write mask replaced
+abbrev pub storedIn : List ℕ → ℕ → ℕ → List ℕ
+storedIn rs n v = set rs n (merged (writeMask n) v (getD rs n 0))
 
 -- some registers of one file, by their numbers, put into another
 abbrev pub puttingBack : List ℕ → List ℕ → List ℕ → List ℕ

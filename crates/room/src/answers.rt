@@ -1,12 +1,14 @@
 // The caches' answers as they cross: the number of the refusal, or 0, and then the answer's values, each 0 where there is none.
 ghost use mathlib.Core.Path.{_≡_};
-ghost use Rattle.cache.specs.Answers.{toldDone, toldAsked, toldValue, toldPlan, toldWriteback};
+ghost use Rattle.cache.specs.Answers.{toldDone, toldValue, toldPlan, toldWriteback};
+ghost use Rattle.cache.specs.Both.{hitsTold};
 ghost use Rattle.room.specs.Answers.{flagOf, numberOf, planOf, evictionOf};
-use cache::Asked;
 use cache::Done;
 use cache::PlanAnswer;
 use cache::Value;
 use cache::WritebackAnswer;
+use tags::tag_array;
+use tags::tag_word;
 
 // Yes or no.
 #[repr(C)]
@@ -46,12 +48,20 @@ pub(crate) fn done_of(done: Done) -> u8
     }
 }
 
-pub(crate) fn flag_of(asked: Asked) -> Flag
-    ensures { λ r. ⌜ r ≡ flagOf (toldAsked asked) ⌝ }
+// Whether an address hits: a cache's `hits` without the enum that it answers by, which costs more than the question.
+pub(crate) fn hits_in(tags: &[u32], addr: u32, size: u32) -> Flag
+    ensures { λ r. ⌜ r ≡ flagOf (hitsTold size (now (tags .entry)) addr) ⌝ }
 {
-    match asked {
-        Asked::Is(is) => Flag { refused: 0, is },
-        Asked::Refused(refused) => Flag { refused, is: false },
+    if tag_array::is_whole(tags) {
+        let word = tag_array::word_for(tags, addr, size);
+        return Flag {
+            refused: 0,
+            is: tag_word::is_hit(word, addr),
+        };
+    }
+    Flag {
+        refused: 1,
+        is: false,
     }
 }
 

@@ -38,7 +38,7 @@ pub extern "C" fn room_dcache_new(lines: &mut [u8], tags: &mut [u32]) -> u8
 pub extern "C" fn room_dcache_hits(tags: &[u32], addr: u32) -> Flag
     ensures { λ r. ⌜ r ≡ flagOf (hitsTold 16 (now (tags .entry)) addr) ⌝ }
 {
-    answers::flag_of(dcache::hits(tags, addr))
+    answers::hits_in(tags, addr, 16)
 }
 
 #[no_mangle]

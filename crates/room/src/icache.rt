@@ -30,7 +30,7 @@ pub extern "C" fn room_icache_new(lines: &mut [u8], tags: &mut [u32]) -> u8
 pub extern "C" fn room_icache_hits(tags: &[u32], addr: u32) -> Flag
     ensures { λ r. ⌜ r ≡ flagOf (hitsTold 32 (now (tags .entry)) addr) ⌝ }
 {
-    answers::flag_of(icache::hits(tags, addr))
+    answers::hits_in(tags, addr, 32)
 }
 
 #[no_mangle]

@@ -3,13 +3,13 @@ ghost use mathlib.Core.Path.{_≡_};
 ghost use mathlib.Core.Bool.{false};
 ghost use Prim.Native.Nat.{_%_};
 ghost use Rattle.cop0.specs.Registers.{unused, wide};
-ghost use Rattle.cop0.specs.Record.{fresh, withEpoch};
+ghost use Rattle.cop0.specs.Record.{fresh, withEpoch, withLatch};
 ghost use Rattle.cop0.specs.Clock.{countOf, asked};
 ghost use Rattle.cop0.specs.Interrupt.{setIpOf};
-ghost use Rattle.cop0.specs.File.{readOf, writeOf, setHardwareOf};
+ghost use Rattle.cop0.specs.File.{readOf, besides, writeOf, setHardwareOf};
 ghost use Rattle.cop0.specs.Access.{mfc0Of, dmfc0Of, moved32, mtc0Of, dmtc0Of, fromRsOf};
 ghost use Rattle.cop0.specs.Advance.{codeOf};
-ghost use Rattle.room.specs.Registers.{cop0In, clockOf, still, blank};
+ghost use Rattle.room.specs.Registers.{cop0In, clockOf, still, blank, storedIn};
 use crate::masks;
 use cop0::Cop0;
 use cop0::Cop0Op;
@@ -49,7 +49,8 @@ pub extern "C" fn room_write(regs: &mut [u64; 32], clock: Clock, n: u8, value: u
     ensures { λ r. ⌜ (r ≡ clockOf (writeOf (cop0In (now (regs .entry)) clock) n value))
         × (now (regs .exit) ≡ writeOf (cop0In (now (regs .entry)) clock) n value .regs) ⌝ }
 {
-    write_in(regs, clock, n, value)
+    store_in(regs, n, value);
+    settle(regs, clock, n, value)
 }
 
 // It moves no clock, and so none is passed.
@@ -79,20 +80,23 @@ pub extern "C" fn room_dmfc0(regs: &[u64; 32], clock: Clock, rd: u8) -> u64
 
 // `MTC0 rd, rt`.
 #[no_mangle]
-pub extern "C" fn room_mtc0(regs: &mut [u64; 32], clock: Clock, n: u8, value: u64) -> Clock
-    ensures { λ r. ⌜ (r ≡ clockOf (mtc0Of (cop0In (now (regs .entry)) clock) n value))
-        × (now (regs .exit) ≡ mtc0Of (cop0In (now (regs .entry)) clock) n value .regs) ⌝ }
+pub extern "C" fn room_mtc0(regs: &mut [u64; 32], clock: Clock, rd: u8, value: u64) -> Clock
+    ensures { λ r. ⌜ (r ≡ clockOf (mtc0Of (cop0In (now (regs .entry)) clock) rd value))
+        × (now (regs .exit) ≡ mtc0Of (cop0In (now (regs .entry)) clock) rd value .regs) ⌝ }
 {
-    move_in(regs, clock, n, moved_32(n, value))
+    let moved = moved_32(rd, value);
+    store_in(regs, rd, moved);
+    settle(regs, latched(clock, moved), rd, moved)
 }
 
 // `DMTC0 rd, rt`.
 #[no_mangle]
-pub extern "C" fn room_dmtc0(regs: &mut [u64; 32], clock: Clock, n: u8, value: u64) -> Clock
-    ensures { λ r. ⌜ (r ≡ clockOf (dmtc0Of (cop0In (now (regs .entry)) clock) n value))
-        × (now (regs .exit) ≡ dmtc0Of (cop0In (now (regs .entry)) clock) n value .regs) ⌝ }
+pub extern "C" fn room_dmtc0(regs: &mut [u64; 32], clock: Clock, rd: u8, value: u64) -> Clock
+    ensures { λ r. ⌜ (r ≡ clockOf (dmtc0Of (cop0In (now (regs .entry)) clock) rd value))
+        × (now (regs .exit) ≡ dmtc0Of (cop0In (now (regs .entry)) clock) rd value .regs) ⌝ }
 {
-    move_in(regs, clock, n, value)
+    store_in(regs, rd, value);
+    settle(regs, latched(clock, value), rd, value)
 }
 
 #[no_mangle]
@@ -144,15 +148,22 @@ fn read_in(regs: &[u64; 32], clock: Clock, n: u8) -> u64
     own
 }
 
-// `Cop0::write` to lent registers, of which it touches one, and another for Compare and Wired.
-fn write_in(regs: &mut [u64; 32], clock: Clock, n: u8, value: u64) -> Clock
-    ensures { λ r. ⌜ (r ≡ clockOf (writeOf (cop0In (now (regs .entry)) clock) n value))
-        × (now (regs .exit) ≡ writeOf (cop0In (now (regs .entry)) clock) n value .regs) ⌝ }
+// A write is two functions, which its three callers call both: the first is large and needs no clock, and so the second, which
+// hands the clock on, is small enough to be compiled into them. The bits under the register's write mask:
+fn store_in(regs: &mut [u64; 32], n: u8, value: u64)
+    ensures { λ _. ⌜ now (regs .exit) ≡ storedIn (now (regs .entry)) (n % 32) value ⌝ }
+{
+    let at = (n % 32) as usize;
+    let x = bits::merge(masks::write_mask(n), value, regs[at]);
+    regs[at] = x;
+}
+
+// And what a write to Count, Compare or Wired does besides.
+fn settle(regs: &mut [u64; 32], clock: Clock, n: u8, value: u64) -> Clock
+    ensures { λ r. ⌜ (r ≡ clockOf (besides (n % 32) value (cop0In (now (regs .entry)) clock)))
+        × (now (regs .exit) ≡ besides (n % 32) value (cop0In (now (regs .entry)) clock) .regs) ⌝ }
 {
     let k = n % 32;
-    let i = k as usize;
-    let x = bits::merge(masks::write_mask(n), value, regs[i]);
-    regs[i] = x;
     if k == Cop0::COUNT {
         return asked_at(counting_from(clock, bits::low32(value)));
     }
@@ -167,13 +178,12 @@ fn write_in(regs: &mut [u64; 32], clock: Clock, n: u8, value: u64) -> Clock
     clock
 }
 
-// `Cop0::dmtc0`: a write that sets the latch.
-fn move_in(regs: &mut [u64; 32], mut clock: Clock, n: u8, moved: u64) -> Clock
-    ensures { λ r. ⌜ (r ≡ clockOf (dmtc0Of (cop0In (now (regs .entry)) clock) n moved))
-        × (now (regs .exit) ≡ dmtc0Of (cop0In (now (regs .entry)) clock) n moved .regs) ⌝ }
+// The latch takes what a move writes.
+fn latched(mut clock: Clock, moved: u64) -> Clock
+    ensures { λ r. ⌜ r ≡ clockOf (withLatch (cop0In blank clock) moved) ⌝ }
 {
     clock.write_latch = moved;
-    write_in(regs, clock, n, moved)
+    clock
 }
 
 // What MTC0 writes of a value: its low half, sign-extended for a register of 64 bits.

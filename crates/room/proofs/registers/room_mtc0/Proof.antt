@@ -1,4 +1,6 @@
--- The extended value is moved.
+-- A write of the extended value, to the record whose latch is set.
+use Rattle.cop0.specs.File.{writeAt}
+use Rattle.cop0.specs.Access.{dmtc0Of}
 use borrow.Author.Needs.{needs}
 use Rattle.room.proofs.registers.room_mtc0.Statement.{statement}
 use Rattle.room.proofs.registers.room_mtc0.Tie as tie
@@ -6,11 +8,20 @@ use Rattle.room.proofs.registers.room_mtc0.Tie as tie
 moved-32-requires : tie.Need-moved-32-requires
 moved-32-requires c κs = search needs
 
-move-in-requires : tie.Need-move-in-requires
-move-in-requires c κs = search needs
+store-in-requires : tie.Need-store-in-requires
+store-in-requires c κs = search needs
+
+latched-requires : tie.Need-latched-requires
+latched-requires c κs = search needs
+
+settle-requires : tie.Need-settle-requires
+settle-requires c κs = search needs
 
 returns : tie.Need-returns
-returns c = rw (← c .before .moved-32 .ensures) (c .move-in .ensures)
+unfolding dmtc0Of writeAt
+returns c = rw (c .before .latched .ensures, c .before .before .before .store-in .ensures, c .before .before .before .before .before .moved-32 .ensures) at (c .settle .ensures)
 
 pub room-mtc0-spec : {M : Type 1} → statement M
-room-mtc0-spec = tie.close (tie.spec moved-32-requires move-in-requires returns)
+room-mtc0-spec =
+    tie.close
+    (tie.spec moved-32-requires store-in-requires latched-requires settle-requires returns)
