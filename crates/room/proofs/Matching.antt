@@ -1,9 +1,9 @@
 -- Comparing R and VPN2 at once is comparing each: the mask reaches neither beyond bit 31 nor R.
-use mathlib.Core.Path.{_≡_, refl, sym, ap, _∙_}
-use mathlib.Core.Bool.{Bool, true, false, cond, _&&_, _||_}
+use mathlib.Core.Path.{_≡_}
+use mathlib.Core.Bool.{_&&_}
 use mathlib.Core.List.{List}
 use Prim.Native.Nat.{ℕ, zero, suc, _+_, _*_, _/_, _%_, _^_, _<_}
-use native.Mathlib.Nat.{zero-add, suc-add, mul-one, mul-assoc, pow-suc, lt-of-le-of-lt}
+use native.Mathlib.Nat.{zero-add, suc-add, mul-assoc, pow-suc, lt-of-le-of-lt}
 use native.Mathlib.Decide.{ℕ-discrete}
 use native.Mathlib.Omega.{arith}
 use lib.Dec.{eqb}

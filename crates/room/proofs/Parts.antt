@@ -11,7 +11,6 @@ use Rattle.tlb.specs.declared.table.Tlb.{Tlb}
 use Rattle.tlb.specs.Moves.{entryOf, readEntryOf, probeOf}
 use Rattle.exception.specs.declared.kinds.Exception.{Exception}
 use Rattle.exception.specs.declared.epilogue.Dispatched.{Dispatched}
-use Rattle.exception.specs.declared.returning.Returned.{Returned}
 use Rattle.exception.specs.Vectors.{isReset}
 use Rattle.exception.specs.Kinds.{vectorKindOf, writesBadVaddrOf}
 use Rattle.exception.specs.Epilogue.{inHandler, recorded, addressed, handling}

@@ -1,21 +1,18 @@
 -- The exports make a session: lent registers with their clock and lent words with their micro-TLB are one, and what an operation's
 -- export answers and leaves is the session's own step. So what is proved of sessions (`session/proofs/Rooms.antt`) holds of a
 -- room whose members call the exports.
-use mathlib.Core.Path.{_≡_, refl, sym, ap, _∙_}
-use mathlib.Core.Bool.{Bool, true, false, cond}
-use mathlib.Core.List.{List, [], _∷_}
-use Prim.Native.Nat.{ℕ, _%_, _<_}
+use mathlib.Core.Path.{_≡_, refl, sym, ap}
+use mathlib.Core.Bool.{Bool, false}
+use mathlib.Core.List.{List}
+use Prim.Native.Nat.{ℕ, _%_}
 use native.Mathlib.Omega.{arith}
 use lib.ListN.{length}
-use Rattle.bits.specs.Field.{bit}
-use Rattle.bits.specs.Told.{Told, answered}
 use Rattle.cop0.specs.declared.registers.Cop0.{Cop0}
 use Rattle.cop0.specs.Access.{mfc0Of, dmfc0Of, mtc0Of, dmtc0Of}
 use Rattle.cop0.specs.Interrupt.{setIpOf, interruptPendingOf}
 use Rattle.cop0.specs.Advance.{advanceTold, advanceOf}
 use Rattle.tlb.specs.declared.table.Tlb.{Tlb}
 use Rattle.tlb.specs.Entries.{toldLookup}
-use Rattle.tlb.specs.Table.{entryAt}
 use Rattle.tlb.specs.Lookup.{lookupAnswer, lookupTable}
 use Rattle.tlb.specs.Moves.{entryOf, writtenOf, readEntryOf, probeOf}
 use Rattle.tlb.specs.Micro.{lowest, hasMatchOf, probedOf, filledOf}
@@ -30,7 +27,7 @@ use Rattle.session.specs.declared.op.Op.the-variants as op
 use Rattle.session.specs.declared.op.Answer.the-variants as answer
 use Rattle.session.specs.Record.{withCop0, withTlb}
 use Rattle.session.specs.Answers.{toldAnswer, ofCase, done, number}
-use Rattle.session.specs.Step.{Outcome, told, flag, stepOf}
+use Rattle.session.specs.Step.{told, flag, stepOf}
 use Rattle.room.specs.declared.registers.Clock.{Clock}
 use Rattle.room.specs.declared.table.Micro.{Micro}
 use Rattle.room.specs.Registers.{cop0In, clockOf, still}

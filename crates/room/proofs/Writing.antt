@@ -6,7 +6,6 @@ use Prim.Native.Nat.{ℕ}
 use lib.ListN.{set}
 use borrow.Author.Tests.{eq-eqb, ne-eqb}
 use Rattle.bits.specs.Extension.{low32Of}
-use Rattle.cop0.specs.declared.registers.Cop0.{Cop0}
 use Rattle.cop0.specs.Registers.{Random, Wired, Count, Compare}
 use Rattle.cop0.specs.Record.{withEpoch}
 use Rattle.cop0.specs.Interrupt.{setIpOf}

@@ -1,5 +1,4 @@
 -- A number at a time; the last is what is left below 32.
-use native.Mathlib.Omega.{arith}
 use Rattle.cop0.specs.Registers.{archMask}
 use Rattle.room.proofs.Left.{left}
 use Rattle.room.proofs.masks.arch_mask.Statement.{statement}

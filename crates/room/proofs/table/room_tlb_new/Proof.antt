@@ -1,14 +1,12 @@
 -- The words are filled entry by entry.
-use mathlib.Core.Path.{_≡_, refl, sym, ap, _∙_}
-use Prim.Native.Nat.{ℕ, suc, _≤_, _-_, _%_}
+use mathlib.Core.Path.{_≡_, refl, ap, _∙_}
+use Prim.Native.Nat.{_≤_, _-_, _%_}
 use native.Mathlib.Numerals.{add-one}
 use native.Mathlib.Omega.{arith}
 use borrow.Author.Needs.{needs}
-use Rattle.tlb.specs.declared.entries.Entry.{Entry}
-use Rattle.tlb.specs.declared.table.Tlb.{Tlb}
-use Rattle.tlb.specs.Table.{freshEntry, freshTable, entryAt}
+use Rattle.tlb.specs.Table.{freshEntry, entryAt}
 use Rattle.tlb.proofs.Freshly.{at}
-use Rattle.room.specs.Table.{microOf, freshWords}
+use Rattle.room.specs.Table.{freshWords}
 use Rattle.room.proofs.table.room_tlb_new.Statement.{statement}
 use Rattle.room.proofs.table.room_tlb_new.Tie as tie
 
