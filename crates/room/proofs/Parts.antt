@@ -1,9 +1,12 @@
 -- An operation that is not passed the clock: with any clock it gives the registers that its export gives, and leaves the clock.
+-- And one that is not passed the registers: with any registers it gives the clock that its export gives, and leaves them.
 use mathlib.Core.Path.{_≡_, refl}
 use mathlib.Core.Bool.{Bool, true, false}
 use mathlib.Core.List.{List}
 use Prim.Native.Nat.{ℕ}
 use Rattle.cop0.specs.Registers.{unused, among}
+use Rattle.cop0.specs.Record.{withNow}
+use Rattle.cop0.specs.Clock.{countOf}
 use Rattle.cop0.specs.File.{readAt, setHardwareOf}
 use Rattle.cop0.specs.Interrupt.{setIpOf, interruptPendingOf}
 use Rattle.cop0.specs.Random.{tickRandomOf, tickRandomByOf}
@@ -17,9 +20,18 @@ use Rattle.exception.specs.Epilogue.{inHandler, recorded, addressed, handling}
 use Rattle.exception.specs.Taking.{nmiOf, takenOf, dispatchOf}
 use Rattle.exception.specs.Returning.{inError, eretOf}
 use Rattle.room.specs.declared.registers.Clock.{Clock}
-use Rattle.room.specs.Registers.{cop0In, still}
+use Rattle.room.specs.Registers.{cop0In, clockOf, still, blank}
 
 module _ (rs : List ℕ) (k : Clock) where
+  pub set-now-part : (t : ℕ) → withNow (cop0In rs k) t ≡ cop0In rs (clockOf (withNow (cop0In blank k) t))
+  set-now-part t = refl
+
+  pub count-now-part : cop0In rs k .now ≡ cop0In blank k .now
+  count-now-part = refl
+
+  pub count-part : countOf (cop0In rs k) ≡ countOf (cop0In blank k)
+  count-part = refl
+
   pub set-hardware-part : (n v : ℕ) → setHardwareOf (cop0In rs k) n v ≡ cop0In (setHardwareOf (cop0In rs still) n v .regs) k
   unfolding setHardwareOf
   set-hardware-part n v = refl

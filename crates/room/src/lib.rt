@@ -1,6 +1,6 @@
 // What other languages link. Each function is one operation of the crates below, under the prefix `room_`, and takes only the
-// state that the operation needs: the registers are lent as an array of 32 numbers beside their clock, the TLB as an array of
-// 128 words beside its micro-TLB, a cache as its lines and its tags. Enums cross as numbers.
+// parts of the state that the operation needs: the registers are lent as an array of 32 numbers beside their clock, the TLB
+// as an array of 128 words beside its micro-TLB, a cache as its lines and its tags. Enums cross as numbers.
 mod answers;
 mod clock;
 mod dcache;
