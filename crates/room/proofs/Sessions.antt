@@ -8,11 +8,13 @@ use Prim.Native.Nat.{ℕ, _%_}
 use native.Mathlib.Omega.{arith}
 use lib.ListN.{length}
 use Rattle.cop0.specs.declared.registers.Cop0.{Cop0}
+use Rattle.cop0.specs.Record as registers
 use Rattle.cop0.specs.Access.{mfc0Of, dmfc0Of, mtc0Of, dmtc0Of}
 use Rattle.cop0.specs.Interrupt.{setIpOf, interruptPendingOf}
 use Rattle.cop0.specs.Advance.{advanceTold, advanceOf}
 use Rattle.tlb.specs.declared.table.Tlb.{Tlb}
-use Rattle.tlb.specs.Entries.{toldLookup}
+use Rattle.tlb.specs.Entries.{pageSizeOf, pairSizeOf, toldLookup}
+use Rattle.tlb.specs.Table.{freshTable}
 use Rattle.tlb.specs.Lookup.{lookupAnswer, lookupTable}
 use Rattle.tlb.specs.Moves.{entryOf, writtenOf, readEntryOf, probeOf}
 use Rattle.tlb.specs.Micro.{lowest, hasMatchOf, probedOf, filledOf}
@@ -25,19 +27,24 @@ use Rattle.exception.specs.Returning.{eretOf}
 use Rattle.session.specs.declared.session.Session.{Session}
 use Rattle.session.specs.declared.op.Op.the-variants as op
 use Rattle.session.specs.declared.op.Answer.the-variants as answer
-use Rattle.session.specs.Record.{withCop0, withTlb}
+use Rattle.session.specs.Record.{fresh, withCop0, withTlb}
 use Rattle.session.specs.Answers.{toldAnswer, ofCase, done, number}
 use Rattle.session.specs.Step.{told, flag, stepOf}
 use Rattle.room.specs.declared.registers.Clock.{Clock}
 use Rattle.room.specs.declared.table.Micro.{Micro}
 use Rattle.room.specs.Registers.{cop0In, clockOf, still}
-use Rattle.room.specs.Table.{entryIn, tableIn, microOf, idle, putEntry}
+use Rattle.room.specs.Table.{entryIn, tableIn, microOf, idle, putEntry, freshWords}
 use Rattle.room.proofs.Words.{entry-at}
 use Rattle.room.proofs.Parts.{set-ip-part, pending-part, entry-part, read-entry-part, probe-part, dispatch-part, eret-part}
-use Rattle.room.proofs.Tables.{written, looked-keeps, translated-keeps, probed-keeps, filled-keeps}
+use Rattle.room.proofs.Tables.{made-fresh, written, looked-keeps, translated-keeps, probed-keeps, filled-keeps}
 
 abbrev pub sessionIn : List ℕ → Clock → List ℕ → Micro → Session
 sessionIn rs k ws m = record { cop0 = cop0In rs k; tlb = tableIn ws m }
+
+-- the two exports that make state make a fresh session, whatever was lent
+pub new-starts : (ws : List ℕ) → length ws ≡ 128
+    → sessionIn (registers.fresh .regs) (clockOf registers.fresh) (freshWords 32 ws) (microOf freshTable) ≡ fresh
+new-starts ws long = ap (λ (t : Tlb). withTlb fresh t) (made-fresh ws long)
 
 -- a session of lent parts: rs the registers, k their clock, ws the words, m the micro-TLB
 module _ (rs : List ℕ) (k : Clock) (ws : List ℕ) (m : Micro) where
@@ -75,6 +82,16 @@ module _ (rs : List ℕ) (k : Clock) (ws : List ℕ) (m : Micro) where
   pub advance-steps : (n t : ℕ)
       → stepOf (op.Advance n t) s ≡ told (ofCase 7 (advanceTold (cop0In rs k) n t)) (withParts (advanceOf (cop0In rs k) n t))
   advance-steps n t = refl
+
+  -- `is_shutdown` has no export: it is the micro-TLB's field
+  pub is-shutdown-steps : stepOf op.IsShutdown s ≡ flag (m .shutdown) s
+  is-shutdown-steps = refl
+
+  pub page-size-steps : (mask : ℕ) → stepOf (op.PageSize mask) s ≡ told (number (pageSizeOf mask)) s
+  page-size-steps mask = refl
+
+  pub pair-size-steps : (mask : ℕ) → stepOf (op.PairSize mask) s ≡ told (number (pairSizeOf mask)) s
+  pair-size-steps mask = refl
 
   pub entry-steps : (i : ℕ) → stepOf (op.Entry i) s ≡ told (toldAnswer (answer.Entry (entryIn ws (i % 32)))) s
   entry-steps i = rw (entry-at ws (i % 32) (omega arith))
