@@ -10,8 +10,8 @@ use Rattle.numbers.specs.Table.{Row, row, answer}
 abbrev stored : List ℕ
 stored = storeTags 16 3 (replicate 512 0) 0x1010 0x12C0
 
-abbrev pub caches : List Row
-caches =
-    row (answer (loadTold 16 3 stored 0x1010)) (0 ∷ 0x12C0 ∷ [])  -- P12
+abbrev pub p12 : List Row
+p12 =
+    row (answer (loadTold 16 3 stored 0x1010)) (0 ∷ 0x12C0 ∷ [])
     ∷ row (answer (residentTold stored (indexOf 16 0x1010) (startOf 16 0x1010))) (0 ∷ 0x12010 ∷ [])
     ∷ []

@@ -16,9 +16,12 @@ use Rattle.numbers.specs.Table.{Row, row, number}
 abbrev inStatus : ℕ → Cop0
 inStatus s = mtc0Of fresh Status s
 
-abbrev pub exceptions : List Row
-exceptions =
-    row (number (dispatchOf (inStatus 2) (TlbRefill false false) 0 false 0 .dispatch .vector)) (number 0xFFFF_FFFF_8000_0180)  -- P7
+-- for a narrow address and for a wide one
+abbrev pub p7 : List Row
+p7 =
+    row (number (dispatchOf (inStatus 2) (TlbRefill false false) 0 false 0 .dispatch .vector)) (number 0xFFFF_FFFF_8000_0180)
     ∷ row (number (dispatchOf (inStatus 2) (TlbRefill false true) 0 false 0 .dispatch .vector)) (number 0xFFFF_FFFF_8000_0180)
-    ∷ row (number (readOf (dispatchOf (inStatus 0) Interrupt 0 true 0 .cop0) EPC)) (number 0xFFFF_FFFF_FFFF_FFFC)  -- P8
     ∷ []
+
+abbrev pub p8 : List Row
+p8 = row (number (readOf (dispatchOf (inStatus 0) Interrupt 0 true 0 .cop0) EPC)) (number 0xFFFF_FFFF_FFFF_FFFC) ∷ []

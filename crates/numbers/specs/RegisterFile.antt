@@ -23,13 +23,17 @@ noEdge = 0 ∷ 0 ∷ []
 abbrev anEdge : List ℕ
 anEdge = 0 ∷ 1 ∷ []
 
-abbrev pub registerFile : List Row
-registerFile =
-    row (stepped 31 10 21) (number 10)  -- P9
-    ∷ row (stepped 31 10 22) (number 31)
-    ∷ row (stepped 5 10 6) (number 63)
-    ∷ row (answer (advanceTold (timed 0xFFFF_FFFE 1) 2 0)) noEdge  -- P10
+abbrev pub p9 : List Row
+p9 = row (stepped 31 10 21) (number 10) ∷ row (stepped 31 10 22) (number 31) ∷ row (stepped 5 10 6) (number 63) ∷ []
+
+abbrev pub p10 : List Row
+p10 =
+    row (answer (advanceTold (timed 0xFFFF_FFFE 1) 2 0)) noEdge
     ∷ row (answer (advanceTold (advanceOf (timed 0xFFFF_FFFE 1) 2 0) 1 0)) anEdge
-    ∷ row (answer (advanceTold (timed 7 7) (2 ^ 32 - 1) 0)) noEdge  -- P11
+    ∷ []
+
+abbrev pub p11 : List Row
+p11 =
+    row (answer (advanceTold (timed 7 7) (2 ^ 32 - 1) 0)) noEdge
     ∷ row (answer (advanceTold (advanceOf (timed 7 7) (2 ^ 32 - 1) 0) 1 0)) anEdge
     ∷ []

@@ -20,12 +20,17 @@ isMapped = answer (toldSegment Mapped)
 abbrev isError : List ℕ
 isError = answer (toldSegment Invalid)
 
-abbrev pub segments : List Row
-segments =
-    row (found Supervisor false 0xFFFF_FFFF_DFFF_FFFF) isMapped  -- P4
+abbrev pub p4 : List Row
+p4 =
+    row (found Supervisor false 0xFFFF_FFFF_DFFF_FFFF) isMapped
     ∷ row (found Supervisor false 0xFFFF_FFFF_E000_0000) isError
-    ∷ row (found Kernel true 0xC000_00FF_7FFF_FFFF) isMapped  -- P5
-    ∷ row (found Kernel true 0xC000_00FF_8000_0000) isError
-    ∷ row (found Kernel true 0x9000_0000_1234_5678) (answer (toldSegment (Direct 0x1234_5678 No)))  -- P6
+    ∷ []
+
+abbrev pub p5 : List Row
+p5 = row (found Kernel true 0xC000_00FF_7FFF_FFFF) isMapped ∷ row (found Kernel true 0xC000_00FF_8000_0000) isError ∷ []
+
+abbrev pub p6 : List Row
+p6 =
+    row (found Kernel true 0x9000_0000_1234_5678) (answer (toldSegment (Direct 0x1234_5678 No)))
     ∷ row (found Kernel true 0x9000_0001_0000_0000) isError
     ∷ []

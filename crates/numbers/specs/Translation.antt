@@ -4,11 +4,14 @@ use Rattle.tlb.specs.Entries.{pageSizeOf}
 use Rattle.tlb.specs.Moves.{canonicalOf}
 use Rattle.numbers.specs.Table.{Row, row, number}
 
-abbrev pub translation : List Row
-translation =
-    row (number (canonicalOf 0x2000)) (number 0)  -- P1
-    ∷ row (number (canonicalOf 0x4000)) (number 0x6000)  -- P2
-    ∷ row (number (pageSizeOf (canonicalOf 0x4000))) (number 0x4000)
-    ∷ row (number (canonicalOf 0x0006_0000)) (number 0x0006_0000)  -- P3
+abbrev pub p1 : List Row
+p1 = row (number (canonicalOf 0x2000)) (number 0) ∷ []
+
+abbrev pub p2 : List Row
+p2 = row (number (canonicalOf 0x4000)) (number 0x6000) ∷ row (number (pageSizeOf (canonicalOf 0x4000))) (number 0x4000) ∷ []
+
+abbrev pub p3 : List Row
+p3 =
+    row (number (canonicalOf 0x0006_0000)) (number 0x0006_0000)
     ∷ row (number (pageSizeOf (canonicalOf 0x0006_0000))) (number 0x0003_1000)
     ∷ []
