@@ -68,6 +68,10 @@ microOf t = record { itlb = t .itlb; «itlb_lru» = t .«itlb_lru»; shutdown = 
 abbrev pub idle : Bool → Micro
 idle b = record { itlb = 32 ∷ 32 ∷ []; «itlb_lru» = 0; shutdown = b }
 
+-- its slots empty, as a write leaves them
+abbrev pub emptied : Micro → Micro
+emptied m = record { itlb = 32 ∷ 32 ∷ []; «itlb_lru» = m .«itlb_lru»; shutdown = m .shutdown }
+
 abbrev pub withNext : Micro → ℕ → Micro
 withNext m n = record { itlb = m .itlb; «itlb_lru» = n; shutdown = m .shutdown }
 

@@ -11,7 +11,7 @@ ghost use Rattle.tlb.specs.Lookup.{lookupAnswer, lookupTable};
 ghost use Rattle.tlb.specs.Moves.{entryOf, writtenOf, readEntryOf, probeOf, pageOf};
 ghost use Rattle.tlb.specs.Micro.{hasMatchOf, slotHits, probedOf, filledOf};
 ghost use Rattle.room.specs.Registers.{cop0In, still};
-ghost use Rattle.room.specs.Table.{tagOf, tagHits, entryIn, entriesIn, tableIn, microOf, idle, withNext, shutDownIn, hiWord, loWord, putEntry, freshWords, filledWith, indexFor, lookedOf, probedIn};
+ghost use Rattle.room.specs.Table.{tagOf, tagHits, entryIn, entriesIn, tableIn, microOf, idle, emptied, withNext, shutDownIn, hiWord, loWord, putEntry, freshWords, filledWith, indexFor, lookedOf, probedIn};
 use crate::registers::cop0_in;
 use crate::registers::still;
 use cop0::Cop0;
@@ -129,11 +129,7 @@ pub extern "C" fn room_tlb_write_entry(
     let old = entry_in(words, index % 32);
     let written = filled_with(old).write_entry(0, cop0_in(*regs, still()));
     put_entry(words, index % 32, written.entry(0));
-    Micro {
-        itlb: [32, 32],
-        itlb_lru: micro.itlb_lru,
-        shutdown: micro.shutdown,
-    }
+    emptied(micro)
 }
 
 // `TLBR`: an entry goes back into the registers.
@@ -381,6 +377,17 @@ fn micro_of(t: Tlb) -> Micro
         itlb,
         itlb_lru: t.itlb_lru,
         shutdown: t.shutdown,
+    }
+}
+
+// A write empties the slots, and keeps which is next and whether the table is shut down.
+fn emptied(micro: Micro) -> Micro
+    ensures { λ r. ⌜ r ≡ emptied micro ⌝ }
+{
+    Micro {
+        itlb: [32, 32],
+        itlb_lru: micro.itlb_lru,
+        shutdown: micro.shutdown,
     }
 }
 

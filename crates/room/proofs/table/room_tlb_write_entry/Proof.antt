@@ -1,5 +1,4 @@
 -- The entry that the write makes goes into its words.
-use mathlib.Core.Path.{refl}
 use Rattle.tlb.specs.Moves.{writtenOf}
 use borrow.Author.Needs.{needs}
 use Rattle.room.proofs.table.room_tlb_write_entry.Statement.{statement}
@@ -26,19 +25,24 @@ entry-requires c κs = search needs
 put-entry-requires : tie.Need-put-entry-requires
 put-entry-requires c κs = search needs
 
+emptied-requires : tie.Need-emptied-requires
+emptied-requires c κs = search needs
+
 returns : tie.Need-returns
 unfolding writtenOf
-returns c = (
-  refl,
-  rw (
-    c .put-entry .ensures,
-    c .before .entry .ensures,
-    c .before .before .before .write-entry .ensures,
-    c .before .before .before .before .cop0-in .ensures,
-    c .before .before .before .before .before .still .ensures,
-    c .before .before .before .before .before .before .before .filled-with .ensures,
-  ),
-)
+returns c =
+    let p = c .before in
+    let w = p .before .before .before in (
+      c .emptied .ensures,
+      rw (
+        p .put-entry .ensures,
+        p .before .entry .ensures,
+        w .write-entry .ensures,
+        w .before .cop0-in .ensures,
+        w .before .before .still .ensures,
+        w .before .before .before .before .filled-with .ensures,
+      ),
+    )
 
 pub room-tlb-write-entry-spec : {M : Type 1} → statement M
 room-tlb-write-entry-spec =
@@ -51,4 +55,5 @@ room-tlb-write-entry-spec =
     write-entry-requires
     entry-requires
     put-entry-requires
+    emptied-requires
     returns)
