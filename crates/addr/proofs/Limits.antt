@@ -12,7 +12,7 @@ use Rattle.addr.specs.declared.segments.Cached.the-variants.{Yes, No}
 use Rattle.addr.specs.declared.segments.Segment.{Segment}
 use Rattle.addr.specs.declared.segments.Segment.the-variants.{Direct, Mapped, Invalid}
 use Rattle.addr.specs.Answers.{toldSegment}
-use Rattle.addr.specs.Segments.{direct, how, Row, row, inside, segmentIn, rowsOf, erlRow, tableOf, segmentOf}
+use Rattle.addr.specs.Segments.{direct, how, SegmentRow, row, inside, segmentIn, rowsOf, erlRow, tableOf, segmentOf}
 
 abbrev each : {A : Type 0} → (A → Bool) → List A → Bool
 each f [] = true
@@ -32,21 +32,21 @@ abbrev alike : Segment → Segment → Bool
 alike g h = equal (toldSegment g .values) (toldSegment h .values)
 
 -- the address before a row's first and the one after its last, where there is one
-abbrev before : List Row → ℕ → Bool
-before rows first = eqb first 0 || alike (segmentIn rows (first - 1)) Invalid || some (λ (r : Row). eqb (r .last) (first - 1)) rows
+abbrev before : List SegmentRow → ℕ → Bool
+before rows first = eqb first 0 || alike (segmentIn rows (first - 1)) Invalid || some (λ (r : SegmentRow). eqb (r .last) (first - 1)) rows
 
-abbrev after : List Row → ℕ → Bool
-after rows last = eqb last (2 ^ 64 - 1) || alike (segmentIn rows (last + 1)) Invalid || some (λ (r : Row). eqb (r .first) (last + 1)) rows
+abbrev after : List SegmentRow → ℕ → Bool
+after rows last = eqb last (2 ^ 64 - 1) || alike (segmentIn rows (last + 1)) Invalid || some (λ (r : SegmentRow). eqb (r .first) (last + 1)) rows
 
-abbrev ends : List Row → Row → Bool
+abbrev ends : List SegmentRow → SegmentRow → Bool
 ends rows r =
     alike (segmentIn rows (r .first)) (how (r .kind) (r .first))
     && alike (segmentIn rows (r .last)) (how (r .kind) (r .last))
 
-abbrev limits : List Row → Row → Bool
+abbrev limits : List SegmentRow → SegmentRow → Bool
 limits rows r = ends rows r && before rows (r .first) && after rows (r .last)
 
-abbrev tables : List (List Row)
+abbrev tables : List (List SegmentRow)
 tables =
     rowsOf User false
     ∷ rowsOf User true
@@ -56,12 +56,12 @@ tables =
     ∷ rowsOf Kernel true
     ∷ []
 
-pub every-row : each (λ (rows : List Row). each (limits rows) rows) tables ≡ true
+pub every-row : each (λ (rows : List SegmentRow). each (limits rows) rows) tables ≡ true
 unfolding inside
 every-row = refl
 
 -- the eight windows of xkphys, by their C field: the rest of xkphys's row are address errors
-abbrev window : ℕ → Row
+abbrev window : ℕ → SegmentRow
 window c = row (2 ^ 63 + c * 2 ^ 59) (2 ^ 63 + c * 2 ^ 59 + (2 ^ 32 - 1)) (direct 31 (cond (eqb c 2) No Yes))
 
 pub every-window : each (λ (c : ℕ). limits (rowsOf Kernel true) (window c)) (0 ∷ 1 ∷ 2 ∷ 3 ∷ 4 ∷ 5 ∷ 6 ∷ 7 ∷ []) ≡ true
@@ -80,7 +80,7 @@ unfolding inside
 erl-narrow = refl
 
 -- a wide mode's rows go on: the first address past ERL's row is mapped
-abbrev goes-on : List Row → Bool
+abbrev goes-on : List SegmentRow → Bool
 goes-on rows = ends rows erlRow && alike (segmentIn rows (erlRow .last + 1)) Mapped
 
 pub erl-wide : each (λ (m : Mode). goes-on (tableOf (access m true true))) modes ≡ true

@@ -25,24 +25,24 @@ how (direct hi c) v = Direct (fieldOf v hi 0) c
 how xkphys v =
     cond (eqb (fieldOf v 58 32) 0) (Direct (fieldOf v 31 0) (cond (eqb (fieldOf v 61 59) 2) No Yes)) Invalid
 
-pub record Row : Type 0 where
+pub record SegmentRow : Type 0 where
   pub first : ℕ
   pub last : ℕ
   pub kind : Kind
 
-abbrev pub row : ℕ → ℕ → Kind → Row
+abbrev pub row : ℕ → ℕ → Kind → SegmentRow
 row f l k = record { first = f; last = l; kind = k }
 
 unfoldable pub inside : ℕ → ℕ → ℕ → Bool
 inside first last v = leb first v && leb v last
 
 -- by the row that the address lies in; none is an address error
-abbrev pub segmentIn : List Row → ℕ → Segment
+abbrev pub segmentIn : List SegmentRow → ℕ → Segment
 segmentIn [] v = Invalid
 segmentIn (r ∷ rs) v = cond (inside (r .first) (r .last) v) (how (r .kind) v) (segmentIn rs v)
 
 -- the top of both kernel forms
-abbrev pub compatibility : List Row
+abbrev pub compatibility : List SegmentRow
 compatibility =
     row 0xFFFF_FFFF_8000_0000 0xFFFF_FFFF_9FFF_FFFF (direct 28 Yes)  -- kseg0, ckseg0
     ∷ row 0xFFFF_FFFF_A000_0000 0xFFFF_FFFF_BFFF_FFFF (direct 28 No)  -- kseg1, ckseg1
@@ -50,7 +50,7 @@ compatibility =
     ∷ []
 
 -- a mode, and whether its addresses are wide
-abbrev pub rowsOf : Mode → Bool → List Row
+abbrev pub rowsOf : Mode → Bool → List SegmentRow
 rowsOf User false = row 0 0x7FFF_FFFF mapped ∷ []  -- useg
 rowsOf User true = row 0 0xFF_FFFF_FFFF mapped ∷ []  -- xuseg
 rowsOf Supervisor false =
@@ -73,10 +73,10 @@ rowsOf Kernel true =
     ∷ compatibility
 
 -- with ERL the first 2 GB are direct and uncached in every mode (5.2.2)
-abbrev pub erlRow : Row
+abbrev pub erlRow : SegmentRow
 erlRow = row 0 0x7FFF_FFFF (direct 31 No)
 
-abbrev pub tableOf : Access → List Row
+abbrev pub tableOf : Access → List SegmentRow
 tableOf a = cond (a .erl) (erlRow ∷ rowsOf (a .mode) (a .wide)) (rowsOf (a .mode) (a .wide))
 
 unfoldable pub segmentOf : Access → ℕ → Segment

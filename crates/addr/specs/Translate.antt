@@ -21,28 +21,28 @@ use Rattle.addr.specs.Segments.{segmentOf}
 abbrev pub Carries : LookupAnswer → TlbFault → Type 0
 Carries a r = (f : TlbFault) → a ≡ Fault f → r ≡ f
 
-abbrev pub at : ℕ → Cached → TranslateAnswer
-at p c = At (record { addr = p; cached = c })
+abbrev pub reached : ℕ → Cached → TranslateAnswer
+reached p c = At (record { addr = p; cached = c })
 
 -- the lookup's answer, as a translation's
 abbrev pub mappedAnswer : LookupAnswer → TranslateAnswer
-mappedAnswer (Found t) = at (t .addr) (cond (t .uncached) No Yes)
+mappedAnswer (Found t) = reached (t .addr) (cond (t .uncached) No Yes)
 mappedAnswer (Fault f) = Failed (error.Tlb f)
 
 -- by the segment, with the lookup's answer for a mapped one
-abbrev pub answerBy : Segment → LookupAnswer → TranslateAnswer
-answerBy (Direct p c) l = at p c
-answerBy Mapped l = mappedAnswer l
-answerBy Invalid l = Failed error.Address
+abbrev pub segmentAnswer : Segment → LookupAnswer → TranslateAnswer
+segmentAnswer (Direct p c) l = reached p c
+segmentAnswer Mapped l = mappedAnswer l
+segmentAnswer Invalid l = Failed error.Address
 
 unfoldable pub translateAnswer : Tlb → ℕ → ℕ → Bool → Access → TranslateAnswer
-translateAnswer t v asid store a = answerBy (segmentOf a v) (lookupAnswer t v asid store)
+translateAnswer t v asid store a = segmentAnswer (segmentOf a v) (lookupAnswer t v asid store)
 
 -- the table: as the lookup leaves it where it was asked, else untouched
-abbrev pub tableBy : {A : Type 0} → Segment → A → A → A
-tableBy (Direct p c) untouched looked = untouched
-tableBy Mapped untouched looked = looked
-tableBy Invalid untouched looked = untouched
+abbrev pub segmentTable : {A : Type 0} → Segment → A → A → A
+segmentTable (Direct p c) untouched looked = untouched
+segmentTable Mapped untouched looked = looked
+segmentTable Invalid untouched looked = untouched
 
 unfoldable pub translateTable : Tlb → ℕ → ℕ → Access → Tlb
-translateTable t v asid a = tableBy (segmentOf a v) t (lookupTable t v asid)
+translateTable t v asid a = segmentTable (segmentOf a v) t (lookupTable t v asid)

@@ -10,7 +10,6 @@ pub enum Mode {
     User,
 }
 
-#[repr(C)]
 pub struct Access {
     pub mode: Mode,
     // Status.KX, SX or UX: the bit of this mode. One flag rather than three, since only this one ever applies.

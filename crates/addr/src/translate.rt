@@ -9,7 +9,6 @@ use tlb::LookupAnswer;
 use tlb::Tlb;
 use tlb::TlbFault;
 
-#[repr(C)]
 pub struct Physical {
     pub addr: u32,
     pub cached: Cached,

@@ -206,6 +206,11 @@ pub bit-undone : (b : Bool) → eqb (bit b) 1 ≡ b
 bit-undone true = refl
 bit-undone false = refl
 
+-- a flag as a number
+pub a-bit : (b : Bool) → bit b < 2
+a-bit true = omega arith
+a-bit false = omega arith
+
 -- two numbers, each at its place, the upper from j places above the lower: or joins them
 pub or-places : (a b j k : ℕ) → b < 2 ^ j → bitOr (a * 2 ^ (j + k)) (b * 2 ^ k) ≡ (a * 2 ^ j + b) * 2 ^ k
 or-places a b j k h =

@@ -7,7 +7,7 @@ use mathlib.Core.Bool.{Bool, true, false, cond}
 use lib.Dec.{eqb}
 use lib.Pow.{pow-pos}
 use lib.Arith.{mod-mul}
-use lib.Bits.{bitAnd, bitOr, and-step, or-step, and-zero-r, shifted-half, shifted-even, and-mask, and-block}
+use lib.Bits.{bitAnd, bitOr, and-step, or-step, and-zero-l, and-zero-r, shifted-half, shifted-even, and-mask, and-block}
 use Rattle.bits.specs.Mask.{mergedBits}
 
 -- one bit: y's under the complement, x's under the mask
@@ -98,6 +98,34 @@ merged-under (suc n) m x y h =
     ∙ merged-under n (m / 2) (x / 2) (y / 2) (omega (arith, pow-suc 2 n)))
     (ap (λ (z : ℕ). min z (m % 2)) (merged-last n m x y) ∙ bit-under (m % 2) (x % 2) (y % 2) (omega arith))
     ∙ sym (and-step x m)
+
+-- one bit: where w and y lie under m, so does what w takes from x or leaves of y
+bit-kept : (m w x y : ℕ) → m < 2 → w < 2 → x < 2 → min w m ≡ w → min y m ≡ y → min (cond (eqb w 1) x y) m ≡ cond (eqb w 1) x y
+bit-kept m zero x y hm hw hx ew ey = ey
+bit-kept zero (suc zero) x y hm hw hx ew ey = absurd (omega (arith, ew, min-zero 1))
+bit-kept (suc zero) (suc zero) x y hm hw hx ew ey = min-eq-left (omega arith)
+bit-kept (suc (suc m)) (suc zero) x y hm hw hx ew ey = absurd (omega arith)
+bit-kept m (suc (suc w)) x y hm hw hx ew ey = absurd (omega arith)
+
+-- the half and the last bit of a word that lies under m
+module _ (a m : ℕ) (e : bitAnd a m ≡ a) where
+  kept-half : bitAnd (a / 2) (m / 2) ≡ a / 2
+  kept-half = sym (and-half a m) ∙ ap (λ (z : ℕ). z / 2) e
+
+  kept-last : min (a % 2) (m % 2) ≡ a % 2
+  kept-last = sym (and-last a m) ∙ ap (λ (z : ℕ). z % 2) e
+
+-- a merge under a mask that lies under m stays under m
+pub merged-kept : (n m w x y : ℕ) → bitAnd w m ≡ w → bitAnd y m ≡ y → bitAnd (mergedBits n w x y) m ≡ mergedBits n w x y
+unfolding mergedBits
+merged-kept zero m w x y ew ey = and-zero-l m
+merged-kept (suc n) m w x y ew ey =
+    and-step (mergedBits (suc n) w x y) m
+    ∙ ap₂ (λ (a b : ℕ). a * 2 + b)
+    (ap (λ (z : ℕ). bitAnd z (m / 2)) (merged-half n w x y)
+    ∙ merged-kept n (m / 2) (w / 2) (x / 2) (y / 2) (kept-half w m ew) (kept-half y m ey))
+    (ap (λ (z : ℕ). min z (m % 2)) (merged-last n w x y)
+    ∙ bit-kept (m % 2) (w % 2) (x % 2) (y % 2) (omega arith) (omega arith) (omega arith) (kept-last w m ew) (kept-last y m ey))
 
 both-again : (a b : ℕ) → min (min a b) b ≡ min a b
 both-again a b = min-eq-left (min-le-right a b)

@@ -34,21 +34,18 @@ pub enum WritebackAnswer {
 }
 
 // The bytes are those of the line that is evicted, and zero where none is.
-#[repr(C)]
 pub struct MissPlan {
     pub answer: PlanAnswer,
     pub data: [u8; 16],
 }
 
 // The same of a line of the data cache.
-#[repr(C)]
 pub struct DataWriteback {
     pub answer: WritebackAnswer,
     pub data: [u8; 16],
 }
 
 // And of the instruction cache.
-#[repr(C)]
 pub struct InstructionWriteback {
     pub answer: WritebackAnswer,
     pub data: [u8; 32],

@@ -12,3 +12,4 @@ pub mod Answers
 pub mod Unique
 pub mod Keeping
 pub mod Steady
+pub mod Within

@@ -76,12 +76,21 @@ two-jumps c n a b e h =
 abbrev toGo : Cop0 → ℕ
 toGo c = less 32 (compareOf c) (countOf c)
 
+-- each tick adds one to Count
+next-count : (c : Cop0) → countOf (ticked c) ≡ (countOf c + 1) % 2 ^ 32
+unfolding asked
+next-count c = count-moves (c .now) (c .«count_epoch_value») (c .«count_epoch_tick») 1
+
+pub tick-adds-one : (c : Cop0) → countOf (oneTick c) ≡ (countOf c + 1) % 2 ^ 32
+unfolding oneTick setIpOf
+tick-adds-one c = go (becomes c)
+  where
+    go : (b : Bool) → countOf (raisedIf b (ticked c)) ≡ (countOf c + 1) % 2 ^ 32
+    go true = next-count c
+    go false = next-count c
+
 -- one tick, then n: by whether the tick reaches Compare
 module _ (c : Cop0) (n : ℕ) (fits : suc n < 2 ^ 32) where
-  next-count : countOf (ticked c) ≡ (countOf c + 1) % 2 ^ 32
-  unfolding asked
-  next-count = count-moves (c .now) (c .«count_epoch_value») (c .«count_epoch_tick») 1
-
   to-go : (b : Bool) → toGo (jumped c 1 b) ≡ less 32 (compareOf c) ((countOf c + 1) % 2 ^ 32)
   unfolding jumped
   to-go b =
@@ -91,10 +100,10 @@ module _ (c : Cop0) (n : ℕ) (fits : suc n < 2 ^ 32) where
       )
 
   hit : becomes c ≡ true → (countOf c + 1) % 2 ^ 32 ≡ compareOf c
-  hit e = sym next-count ∙ eqb-true _ _ e
+  hit e = sym (next-count c) ∙ eqb-true _ _ e
 
   missed : becomes c ≡ false → (countOf c + 1) % 2 ^ 32 ≡ compareOf c → ⊥
-  missed e h = eqb-false _ _ e (next-count ∙ h)
+  missed e h = eqb-false _ _ e (next-count c ∙ h)
 
   one-more : (b : Bool) → becomes c ≡ b
       → raisedIn (edgeIn (toGo (jumped c 1 b)) n) (raisedIn b (c .regs)) ≡ raisedIn (edgeIn (toGo c) (suc n)) (c .regs)

@@ -3,26 +3,28 @@ use mathlib.Core.Path.{_≡_, refl, ap, sym, subst, _∙_}
 use mathlib.Core.Bool.{Bool, true, false, cond}
 use mathlib.Core.List.{List}
 use Prim.Native.Nat.{ℕ, zero, suc, _/_, _%_, _^_, _<_}
+use native.Mathlib.Decide.{ℕ-discrete}
 use native.Mathlib.Omega.{arith}
+use lib.Bits.{and-mask}
 use lib.Dec.{T, eqb, ltb, ltb→lt}
 use lib.ListN.{length, length-set}
 use lib.Seq.{getD-set-same, getD-set-other, set-getD}
-use Rattle.bits.specs.Mask.{merged}
+use Rattle.bits.specs.Mask.{under, merged}
 use Rattle.bits.specs.Extension.{low32Of}
 use Rattle.bits.proofs.MaskLaws.{merged-none}
 use Rattle.cop0.specs.declared.registers.Cop0.{Cop0}
-use Rattle.cop0.specs.Registers.{Random, Wired, Count, Compare, Cause, among, writeMask}
+use Rattle.cop0.specs.Registers.{Random, Wired, Count, Compare, Cause, among, writeMask, archMask}
 use Rattle.cop0.specs.Record.{reg, withReg, withEpoch, withLatch, fresh}
 use Rattle.cop0.specs.Interrupt.{setIpOf}
 use Rattle.cop0.specs.Clock.{asked}
 use Rattle.cop0.specs.Random.{randomOf}
-use Rattle.cop0.specs.File.{besides, writeAt}
+use Rattle.cop0.specs.File.{besides, writeAt, setHardwareOf}
 use Rattle.cop0.specs.Access.{dmtc0Of}
 use Rattle.cop0.specs.Advance.{advanceOf}
 use Rattle.cop0.specs.Machine.{sixBit, ticks, steps, Kept, Steady}
 use Rattle.cop0.specs.Only.{Only}
 use Rattle.cop0.proofs.Hardware.{only-kept}
-use Rattle.cop0.proofs.Keeping.{fresh-kept, set-ip-kept, dmtc0-kept, advance-kept}
+use Rattle.cop0.proofs.Keeping.{fresh-kept, set-ip-kept, set-hardware-kept, dmtc0-kept, advance-kept}
 use Rattle.cop0.proofs.Machine.{advance-is, advance-refused}
 use Rattle.cop0.proofs.Order.{ticks-kept, ticks-six, steps-six}
 
@@ -56,6 +58,18 @@ set-other c s n x apart = subst (λ (y : ℕ). y < 2 ^ 6) (sym (getD-set-other (
 pub set-ip-steady : (c : Cop0) → Steady c → (b : ℕ) (on : Bool) → Steady (setIpOf c b on)
 unfolding setIpOf
 set-ip-steady c s b on = record { kept = set-ip-kept c (s .kept) b on; random = set-other c (s .random) Cause _ (omega arith) }
+
+-- what the hardware sets Random to has six bits
+pub set-hardware-steady : (c : Cop0) → Steady c → (n v : ℕ) → Steady (setHardwareOf c n v)
+unfolding setHardwareOf archMask
+set-hardware-steady c s n v = record { kept = set-hardware-kept c (s .kept) n v; random = go (ℕ-discrete Random (n % 32)) }
+  where
+    go : Dec (Random ≡ n % 32) → reg (withReg c (n % 32) (under (archMask (n % 32)) v)) Random < 2 ^ 6
+    go (yes p) =
+        let got : reg (withReg c Random (under (archMask Random) v)) Random ≡ v % 2 ^ 6
+        = getD-set-same (c .regs) Random (under (archMask Random) v) 0 (omega (arith, s .kept .file)) ∙ and-mask v 6 in
+        rw (← p) (omega (arith, got))
+    go (no p) = set-other c (s .random) (n % 32) _ p
 
 -- no bit of Random is under its write mask
 stored : (c : Cop0) → length (c .regs) ≡ 32 → reg c Random < 2 ^ 6 → (n v : ℕ)

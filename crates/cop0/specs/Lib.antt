@@ -9,3 +9,4 @@ pub mod Access
 pub mod Advance
 pub mod Machine
 pub mod Cut
+pub mod Within

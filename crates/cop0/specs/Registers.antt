@@ -5,15 +5,36 @@ use Prim.Native.Nat.{ℕ, _+_, _-_, _^_}
 use lib.Dec.{eqb}
 use lib.ListN.{getD}
 
--- the numbers of those that do more than hold their bits
+-- the numbers that definitions name
+abbrev pub Index : ℕ
+Index = 0
+
 abbrev pub Random : ℕ
 Random = 1
+
+abbrev pub EntryLo0 : ℕ
+EntryLo0 = 2
+
+abbrev pub EntryLo1 : ℕ
+EntryLo1 = 3
+
+abbrev pub Context : ℕ
+Context = 4
+
+abbrev pub PageMask : ℕ
+PageMask = 5
 
 abbrev pub Wired : ℕ
 Wired = 6
 
+abbrev pub BadVAddr : ℕ
+BadVAddr = 8
+
 abbrev pub Count : ℕ
 Count = 9
+
+abbrev pub EntryHi : ℕ
+EntryHi = 10
 
 abbrev pub Compare : ℕ
 Compare = 11
@@ -24,20 +45,29 @@ Status = 12
 abbrev pub Cause : ℕ
 Cause = 13
 
+abbrev pub EPC : ℕ
+EPC = 14
+
 abbrev pub PRId : ℕ
 PRId = 15
 
 abbrev pub Config : ℕ
 Config = 16
 
+abbrev pub XContext : ℕ
+XContext = 20
+
+abbrev pub ErrorEPC : ℕ
+ErrorEPC = 30
+
 -- n stands in the list
 unfoldable pub among : List ℕ → ℕ → Bool
 among [] n = false
 among (m ∷ ms) n = eqb n m || among ms n
 
--- the registers of 64 bits: EntryLo0, EntryLo1, Context, BadVAddr, EntryHi, EPC, XContext, ErrorEPC
+-- the registers of 64 bits
 unfoldable pub wide : ℕ → Bool
-wide n = among (2 ∷ 3 ∷ 4 ∷ 8 ∷ 10 ∷ 14 ∷ 20 ∷ 30 ∷ []) n
+wide n = among (EntryLo0 ∷ EntryLo1 ∷ Context ∷ BadVAddr ∷ EntryHi ∷ EPC ∷ XContext ∷ ErrorEPC ∷ []) n
 
 -- "reserved for future use" (table 1-2): these read the latch of the last MTC0 or DMTC0
 unfoldable pub unused : ℕ → Bool
@@ -70,7 +100,7 @@ writable =
     ∷ (29 ⋯ 0 ∷ [])  -- 3 EntryLo1: the same
     ∷ (63 ⋯ 23 ∷ [])  -- 4 Context: PTEBase
     ∷ (24 ⋯ 13 ∷ [])  -- 5 PageMask: MASK
-    ∷ (5 ⋯ 0 ∷ [])  -- 6 Wired
+    ∷ (5 ⋯ 0 ∷ [])  -- 6 Wired: six bits
     ∷ []  -- 7 unused
     ∷ []  -- 8 BadVAddr is read-only (6.3.2)
     ∷ (31 ⋯ 0 ∷ [])  -- 9 Count

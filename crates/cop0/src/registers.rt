@@ -127,7 +127,7 @@ impl Cop0 {
         0x3FFF_FFFF, // EntryLo1
         0xFFFF_FFFF_FF80_0000, // Context
         0x01FF_E000, // PageMask
-        0x3F, // Wired
+        0x3F, // Wired: six bits
         0,
         0, // BadVAddr
         0xFFFF_FFFF, // Count
@@ -283,16 +283,16 @@ impl Cop0 {
     pub(crate) fn reg(self, n: u8) -> u64
         ensures { λ r. ⌜ r ≡ reg self (n % 32) ⌝ }
     {
-        let i = (n % 32) as usize;
-        self.regs[i]
+        let k = (n % 32) as usize;
+        self.regs[k]
     }
 
     // The record with another value stored in register `n`.
     pub(crate) fn with_reg(mut self, n: u8, x: u64) -> Cop0
         ensures { λ r. ⌜ r ≡ withReg self (n % 32) x ⌝ }
     {
-        let i = (n % 32) as usize;
-        self.regs[i] = x;
+        let at = (n % 32) as usize;
+        self.regs[at] = x;
         self
     }
 

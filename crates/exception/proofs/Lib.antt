@@ -1,6 +1,7 @@
 pub mod VectorLaws
 pub mod Answers
 pub mod Untouched
+pub mod Keeping
 pub mod Reading
 pub mod Nesting
 pub mod Return

@@ -8,7 +8,7 @@ use lib.ListN.{length}
 use Rattle.bits.specs.Field.{fieldOf}
 use Rattle.bits.proofs.FieldLaws.{field-higher}
 use Rattle.cop0.specs.declared.registers.Cop0.{Cop0}
-use Rattle.cop0.specs.Registers.{Status, Cause}
+use Rattle.cop0.specs.Registers.{Status, Cause, EPC}
 use Rattle.cop0.specs.File.{readOf}
 use Rattle.exception.specs.declared.kinds.Exception.{Exception}
 use Rattle.exception.specs.declared.epilogue.Dispatched.{Dispatched}
@@ -16,7 +16,7 @@ use Rattle.exception.specs.declared.vectors.VectorKind.{VectorKind}
 use Rattle.exception.specs.declared.vectors.VectorKind.the-variants.{General, TlbRefill, XtlbRefill, Reset}
 use Rattle.exception.specs.Vectors.{isReset, baseOf, vectorOf}
 use Rattle.exception.specs.Kinds.{vectorKindOf}
-use Rattle.exception.specs.Epilogue.{EPC, inHandler}
+use Rattle.exception.specs.Epilogue.{inHandler}
 use Rattle.exception.specs.Taking.{entered, takenOf, dispatchOf}
 use Rattle.exception.proofs.Reading.{nested-cause, nested-epc}
 

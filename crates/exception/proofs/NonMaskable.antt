@@ -10,12 +10,11 @@ use Rattle.bits.proofs.FieldLaws.{field-with, bit-apart}
 use Rattle.bits.proofs.MaskLaws.{under-ones}
 use Rattle.bits.proofs.UnderLaws.{under-with}
 use Rattle.cop0.specs.declared.registers.Cop0.{Cop0}
-use Rattle.cop0.specs.Registers.{Status, among, unused, archMask}
+use Rattle.cop0.specs.Registers.{Status, EPC, ErrorEPC, among, unused, archMask}
 use Rattle.cop0.specs.File.{readAt, readOf, setHardwareOf}
 use Rattle.cop0.proofs.Hardware.{set-file, read-past, read-back, read-kept}
 use Rattle.exception.specs.declared.returning.Returned.{Returned}
-use Rattle.exception.specs.Epilogue.{EPC}
-use Rattle.exception.specs.Taking.{ErrorEPC, nmiStatusOf, nmiOf}
+use Rattle.exception.specs.Taking.{nmiStatusOf, nmiOf}
 use Rattle.exception.specs.Returning.{returned, eretOf}
 use Rattle.exception.proofs.Untouched.{nmi-only}
 use Rattle.exception.proofs.Return.{cleared-status}

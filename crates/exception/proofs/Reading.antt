@@ -10,13 +10,13 @@ use Rattle.bits.specs.Mask.{under}
 use Rattle.bits.proofs.MaskLaws.{under-ones}
 use Rattle.bits.proofs.UnderLaws.{under-with}
 use Rattle.cop0.specs.declared.registers.Cop0.{Cop0}
-use Rattle.cop0.specs.Registers.{Status, Cause, among, unused, archMask}
+use Rattle.cop0.specs.Registers.{Context, BadVAddr, EntryHi, Status, Cause, EPC, XContext, among, unused, archMask}
 use Rattle.cop0.specs.File.{readAt, readOf, setHardwareOf}
 use Rattle.cop0.specs.Only.{Only}
 use Rattle.cop0.proofs.Hardware.{only-none, set-file, read-other, read-past, read-back, read-kept}
 use Rattle.exception.specs.declared.kinds.Exception.{Exception}
 use Rattle.exception.specs.Kinds.{writesBadVaddrOf}
-use Rattle.exception.specs.Epilogue.{Context, BadVAddr, EntryHi, EPC, XContext, causeOf, epcOf, inHandler, contextOf, xcontextOf, entryHiOf, recorded, addressed, handling}
+use Rattle.exception.specs.Epilogue.{causeOf, epcOf, inHandler, contextOf, xcontextOf, entryHiOf, recorded, addressed, handling}
 use Rattle.exception.specs.Taking.{takenOf}
 use Rattle.exception.proofs.Untouched.{either, recorded-only, addressed-only, handling-only}
 

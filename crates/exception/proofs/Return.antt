@@ -9,7 +9,7 @@ use Rattle.bits.specs.Field.{fieldOf, withFieldOf, bit}
 use Rattle.bits.proofs.FieldLaws.{field-higher, with-again, with-own, bit-tested}
 use Rattle.bits.proofs.UnderLaws.{under-with}
 use Rattle.cop0.specs.declared.registers.Cop0.{Cop0}
-use Rattle.cop0.specs.Registers.{Status, among, unused, archMask}
+use Rattle.cop0.specs.Registers.{Status, EPC, ErrorEPC, among, unused, archMask}
 use Rattle.cop0.specs.File.{readAt, readOf}
 use Rattle.cop0.proofs.Hardware.{read-back, read-kept}
 use Rattle.exception.specs.declared.kinds.Exception.{Exception}
@@ -17,8 +17,8 @@ use Rattle.exception.specs.declared.epilogue.Dispatched.{Dispatched}
 use Rattle.exception.specs.declared.returning.Returned.{Returned}
 use Rattle.exception.specs.Vectors.{isReset}
 use Rattle.exception.specs.Kinds.{vectorKindOf}
-use Rattle.exception.specs.Epilogue.{EPC, epcOf, inHandler}
-use Rattle.exception.specs.Taking.{ErrorEPC, takenOf, dispatchOf}
+use Rattle.exception.specs.Epilogue.{epcOf, inHandler}
+use Rattle.exception.specs.Taking.{takenOf, dispatchOf}
 use Rattle.exception.specs.Returning.{inError, returned, eretOf}
 use Rattle.exception.proofs.Untouched.{dispatch-only}
 use Rattle.exception.proofs.Reading.{status-reads, first-epc}

@@ -4,7 +4,7 @@ use mathlib.Core.Bool.{Bool, true, false, cond}
 use mathlib.Core.List.{List, [], _∷_}
 use Prim.Native.Nat.{ℕ}
 use Rattle.cop0.specs.declared.registers.Cop0.{Cop0}
-use Rattle.cop0.specs.Registers.{Status, Cause, among}
+use Rattle.cop0.specs.Registers.{Context, BadVAddr, EntryHi, Status, Cause, EPC, XContext, ErrorEPC, among}
 use Rattle.cop0.specs.Clock.{countOf, compareOf}
 use Rattle.cop0.specs.Machine.{Kept}
 use Rattle.cop0.specs.Only.{Only}
@@ -14,8 +14,8 @@ use Rattle.exception.specs.declared.epilogue.Dispatched.{Dispatched}
 use Rattle.exception.specs.declared.returning.Returned.{Returned}
 use Rattle.exception.specs.Vectors.{isReset}
 use Rattle.exception.specs.Kinds.{writesBadVaddrOf, vectorKindOf}
-use Rattle.exception.specs.Epilogue.{Context, BadVAddr, EntryHi, EPC, XContext, inHandler, recorded, addressed, handling}
-use Rattle.exception.specs.Taking.{ErrorEPC, nmiOf, takenOf, dispatchOf}
+use Rattle.exception.specs.Epilogue.{inHandler, recorded, addressed, handling}
+use Rattle.exception.specs.Taking.{nmiOf, takenOf, dispatchOf}
 use Rattle.exception.specs.Returning.{inError, eretOf}
 
 -- what holds of both answers holds of the one that is chosen

@@ -4,27 +4,11 @@ use Prim.Native.Nat.{ℕ}
 use lib.Dec.{eqb}
 use Rattle.bits.specs.Field.{fieldOf, withFieldOf, bit}
 use Rattle.cop0.specs.declared.registers.Cop0.{Cop0}
-use Rattle.cop0.specs.Registers.{Status, Cause}
+use Rattle.cop0.specs.Registers.{Context, BadVAddr, EntryHi, Status, Cause, EPC, XContext}
 use Rattle.cop0.specs.Clock.{less}
 use Rattle.cop0.specs.File.{readOf, setHardwareOf}
 use Rattle.exception.specs.declared.kinds.Exception.{Exception}
 use Rattle.exception.specs.Kinds.{excCodeOf, unitOf}
-
--- the registers by number: Context, BadVAddr, EntryHi, EPC, XContext
-abbrev pub Context : ℕ
-Context = 4
-
-abbrev pub BadVAddr : ℕ
-BadVAddr = 8
-
-abbrev pub EntryHi : ℕ
-EntryHi = 10
-
-abbrev pub EPC : ℕ
-EPC = 14
-
-abbrev pub XContext : ℕ
-XContext = 20
 
 -- Cause: ExcCode 6..2, CE 29..28
 abbrev pub causeOf : ℕ → Exception → ℕ

@@ -8,16 +8,16 @@ use Rattle.exception.specs.declared.kinds.Exception.the-variants as exce
 use Rattle.exception.specs.declared.vectors.VectorKind.{VectorKind}
 use Rattle.exception.specs.declared.vectors.VectorKind.the-variants.{General, TlbRefill, XtlbRefill, Reset}
 
-pub record Row : Type 0 where
+pub record ExceptionRow : Type 0 where
   pub code : ℕ
   pub unit : ℕ
   pub address : Bool
   pub vector : VectorKind
 
-abbrev pub row : ℕ → ℕ → Bool → VectorKind → Row
+abbrev pub row : ℕ → ℕ → Bool → VectorKind → ExceptionRow
 row c u a v = record { code = c; unit = u; address = a; vector = v }
 
-abbrev pub rowOf : Exception → Row
+abbrev pub rowOf : Exception → ExceptionRow
 rowOf Interrupt = row 0 0 false General  -- Int
 rowOf (AddressError store) = row (cond store 5 4) 0 true General  -- AdES, AdEL
 rowOf Overflow = row 12 0 false General  -- Ov

@@ -4,11 +4,9 @@ use Prim.Native.Nat.{ℕ}
 use lib.Dec.{eqb}
 use Rattle.bits.specs.Field.{fieldOf, withFieldOf}
 use Rattle.cop0.specs.declared.registers.Cop0.{Cop0}
-use Rattle.cop0.specs.Registers.{Status}
+use Rattle.cop0.specs.Registers.{Status, EPC, ErrorEPC}
 use Rattle.cop0.specs.File.{readOf, setHardwareOf}
 use Rattle.exception.specs.declared.returning.Returned.{Returned}
-use Rattle.exception.specs.Epilogue.{EPC}
-use Rattle.exception.specs.Taking.{ErrorEPC}
 
 -- ERL, Status bit 2: an error's handler runs
 abbrev pub inError : Cop0 → Bool

@@ -3,7 +3,7 @@ use mathlib.Core.Bool.{Bool, cond}
 use Prim.Native.Nat.{ℕ}
 use Rattle.bits.specs.Field.{withFieldOf}
 use Rattle.cop0.specs.declared.registers.Cop0.{Cop0}
-use Rattle.cop0.specs.Registers.{Status}
+use Rattle.cop0.specs.Registers.{Status, ErrorEPC}
 use Rattle.cop0.specs.File.{readOf, setHardwareOf}
 use Rattle.exception.specs.declared.kinds.Exception.{Exception}
 use Rattle.exception.specs.declared.vectors.VectorKind.the-variants.{Reset}
@@ -11,9 +11,6 @@ use Rattle.exception.specs.declared.epilogue.Dispatched.{Dispatched}
 use Rattle.exception.specs.Vectors.{isReset, vectorOf}
 use Rattle.exception.specs.Kinds.{writesBadVaddrOf, vectorKindOf}
 use Rattle.exception.specs.Epilogue.{recorded, addressed, handling}
-
-abbrev pub ErrorEPC : ℕ
-ErrorEPC = 30
 
 -- the pipeline stalls for 2 cycles (4.7)
 abbrev pub entered : ℕ → Cop0 → Dispatched

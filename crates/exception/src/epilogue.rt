@@ -14,7 +14,6 @@ pub struct Dispatch {
 }
 
 // The dispatch, and the registers after it.
-#[repr(C)]
 pub struct Dispatched {
     pub dispatch: Dispatch,
     pub cop0: Cop0,

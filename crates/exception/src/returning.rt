@@ -4,7 +4,6 @@ ghost use Rattle.exception.specs.Returning.{eretOf};
 use cop0::Cop0;
 
 // Where to resume, and the registers after the return.
-#[repr(C)]
 pub struct Returned {
     pub pc: u64,
     pub cop0: Cop0,

@@ -7,7 +7,7 @@ use Rattle.cop0.specs.Record.{withReg, fresh}
 use Rattle.cop0.specs.Random.{randomOf, tickRandomByOf}
 use Rattle.cop0.specs.Access.{mtc0Of}
 use Rattle.cop0.specs.Advance.{advanceTold, advanceOf}
-use Rattle.numbers.specs.Table.{Row, row, number, answer}
+use Rattle.numbers.specs.Table.{NumberRow, row, number, answer}
 
 -- Random after n steps, from a Random and a Wired
 abbrev stepped : ℕ → ℕ → ℕ → List ℕ
@@ -23,16 +23,16 @@ noEdge = 0 ∷ 0 ∷ []
 abbrev anEdge : List ℕ
 anEdge = 0 ∷ 1 ∷ []
 
-abbrev pub p9 : List Row
+abbrev pub p9 : List NumberRow
 p9 = row (stepped 31 10 21) (number 10) ∷ row (stepped 31 10 22) (number 31) ∷ row (stepped 5 10 6) (number 63) ∷ []
 
-abbrev pub p10 : List Row
+abbrev pub p10 : List NumberRow
 p10 =
     row (answer (advanceTold (timed 0xFFFF_FFFE 1) 2 0)) noEdge
     ∷ row (answer (advanceTold (advanceOf (timed 0xFFFF_FFFE 1) 2 0) 1 0)) anEdge
     ∷ []
 
-abbrev pub p11 : List Row
+abbrev pub p11 : List NumberRow
 p11 =
     row (answer (advanceTold (timed 7 7) (2 ^ 32 - 1) 0)) noEdge
     ∷ row (answer (advanceTold (advanceOf (timed 7 7) (2 ^ 32 - 1) 0) 1 0)) anEdge

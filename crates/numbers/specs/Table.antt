@@ -5,11 +5,11 @@ use Prim.Native.Nat.{ℕ}
 use lib.Dec.{eqb}
 use Rattle.bits.specs.Told.{Told}
 
-pub record Row : Type 0 where
+pub record NumberRow : Type 0 where
   pub computed : List ℕ
   pub expected : List ℕ
 
-abbrev pub row : List ℕ → List ℕ → Row
+abbrev pub row : List ℕ → List ℕ → NumberRow
 row c e = record { computed = c; expected = e }
 
 -- one number
@@ -27,6 +27,6 @@ equal (x ∷ xs) [] = false
 equal (x ∷ xs) (y ∷ ys) = eqb x y && equal xs ys
 
 -- every row holds
-abbrev pub all : List Row → Bool
+abbrev pub all : List NumberRow → Bool
 all [] = true
 all (r ∷ rs) = equal (r .computed) (r .expected) && all rs

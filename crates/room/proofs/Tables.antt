@@ -9,45 +9,26 @@ use lib.Dec.{eqb, ltb}
 use lib.ListN.{length, getD, set, length-set}
 use lib.Seq.{ext-getD, getD-set-same, getD-set-other}
 use Rattle.bits.specs.Field.{fieldOf, bit}
-use Rattle.bits.proofs.FieldLaws.{field-lt, bit-undone}
+use Rattle.bits.proofs.FieldLaws.{field-lt, bit-undone, a-bit}
 use Rattle.cop0.specs.declared.registers.Cop0.{Cop0}
-use Rattle.cop0.specs.File.{readOf}
 use Rattle.tlb.specs.declared.entries.PageEntry.{PageEntry}
 use Rattle.tlb.specs.declared.entries.Entry.{Entry}
 use Rattle.tlb.specs.Table.{withVpn2, freshEntry, freshTable, matching}
 use Rattle.tlb.specs.Lookup.{tableBy, lookupTable}
 use Rattle.tlb.specs.declared.micro.ItlbProbed.{ItlbProbed}
 use Rattle.tlb.specs.Micro.{withItlb, lowest, slotHits, probedOf, filledOf}
-use Rattle.tlb.specs.Moves.{EntryLo0, EntryLo1, PageMask, EntryHi, pageOf, entryOf, writtenOf}
+use Rattle.tlb.specs.Moves.{pageOf, entryOf, writtenOf}
 use Rattle.addr.specs.declared.access.Access.{Access}
 use Rattle.addr.specs.declared.segments.Segment.{Segment}
 use Rattle.addr.specs.declared.segments.Segment.the-variants.{Direct, Mapped, Invalid}
 use Rattle.addr.specs.Segments.{segmentOf}
-use Rattle.addr.specs.Translate.{translateTable}
-use Rattle.addr.specs.Translate as addr
+use Rattle.addr.specs.Translate.{segmentTable, translateTable}
 use Rattle.tlb.proofs.Freshly.{fresh}
-use Rattle.tlb.proofs.Sizes.{pairs-small}
-use Rattle.tlb.proofs.RoundTrip.{left, left-at, left-lt}
+use Rattle.tlb.specs.Sound.{SoundHalf, Sound}
+use Rattle.tlb.proofs.Sound.{sound-mask, sound-vpn2, entry-sound, fresh-sound}
 use Rattle.room.specs.declared.table.Micro.{Micro}
 use Rattle.room.specs.Table.{entryIn, entriesIn, tableIn, microOf, hiWord, loWord, putEntry, freshWords}
 use Rattle.room.proofs.Words.{entries-long, entry-at}
-
--- a half and an entry whose fields fit their places: those that the operations make
-pub record HalfFits (p : PageEntry) : Type 0 where
-  pub pfn : p .pfn < 2 ^ 20
-  pub c : p .c < 2 ^ 3
-
-pub record Fits (e : Entry) : Type 0 where
-  pub mask : e .«page_mask» < 2 ^ 32
-  pub vpn2 : fieldOf (e .vpn2) 39 13 * 2 ^ 13 ≡ e .vpn2
-  pub asid : e .asid < 2 ^ 8
-  pub region : e .region < 4
-  pub lo0 : HalfFits (e .lo0)
-  pub lo1 : HalfFits (e .lo1)
-
-a-bit : (b : Bool) → bit b < 2
-a-bit true = omega arith
-a-bit false = omega arith
 
 -- the fields of EntryHi
 module _ (r w a : ℕ) (hr : r < 4) (hw : w < 2 ^ 27) (ha : a < 2 ^ 8) where
@@ -64,7 +45,7 @@ module _ (r w a : ℕ) (hr : r < 4) (hw : w < 2 ^ 27) (ha : a < 2 ^ 8) where
   hi-asid = omega arith
 
 -- and of EntryLo
-module _ (p : PageEntry) (g : Bool) (fit : HalfFits p) where
+module _ (p : PageEntry) (g : Bool) (fit : SoundHalf p) where
   lo-g : eqb (fieldOf (loWord p g) 0 0) 1 ≡ g
   lo-g =
       let e : fieldOf (loWord p g) 0 0 ≡ bit g = omega (arith, a-bit g) in
@@ -117,12 +98,12 @@ module _ (ws : List ℕ) (long : length ws ≡ 128) (i : ℕ) (e : Entry) where
     put-3 = getD-set-same w₃ (4 * i + 3) x₃ 0 (simp length-set (omega (arith, long)))
 
     -- the entry that was put there
-    pub put-same : Fits e → entryIn (putEntry ws i e) i ≡ e
+    pub put-same : Sound e → entryIn (putEntry ws i e) i ≡ e
     unfolding entryIn
     put-same f =
         let w = fieldOf (e .vpn2) 39 13 in
         let small = field-lt (e .vpn2) 39 13 in
-        let m : e .«page_mask» % 2 ^ 32 ≡ e .«page_mask» = omega (arith, f .mask) in
+        let m : e .«page_mask» % 2 ^ 32 ≡ e .«page_mask» = omega (arith, sound-mask e f) in
         rw (
           put-0,
           put-1,
@@ -132,7 +113,7 @@ module _ (ws : List ℕ) (long : length ws ≡ 128) (i : ℕ) (e : Entry) where
           hi-region (e .region) w (e .asid) (f .region) small (f .asid),
           hi-vpn2 (e .region) w (e .asid) (f .region) small (f .asid),
           hi-asid (e .region) w (e .asid) (f .region) small (f .asid),
-          f .vpn2,
+          sound-vpn2 e f,
           lo-g (e .lo0) (e .global) (f .lo0),
           lo-page (e .lo0) (e .global) (f .lo0),
           lo-page (e .lo1) (e .global) (f .lo1),
@@ -158,7 +139,7 @@ module _ (ws : List ℕ) (long : length ws ≡ 128) (i : ℕ) (e : Entry) where
       )
 
   -- so that the table has it in that place
-  pub put-table : i < 32 → Fits e → entriesIn (putEntry ws i e) ≡ set (entriesIn ws) i e
+  pub put-table : i < 32 → Sound e → entriesIn (putEntry ws i e) ≡ set (entriesIn ws) i e
   put-table h f =
       ext-getD (withVpn2 0) (entriesIn (putEntry ws i e)) (set (entriesIn ws) i e)
       (entries-long (putEntry ws i e) ∙ sym (length-set (entriesIn ws) i e ∙ entries-long ws))
@@ -168,36 +149,11 @@ module _ (ws : List ℕ) (long : length ws ≡ 128) (i : ℕ) (e : Entry) where
       go k q (yes p) = rw p (put-same h f ∙ sym (getD-set-same (entriesIn ws) i e (withVpn2 0) (rw (entries-long ws) h)))
       go k q (no p) = put-other k p ∙ sym (getD-set-other (entriesIn ws) i k e (withVpn2 0) p ∙ entry-at ws k q)
 
-half-fits : (lo : ℕ) → HalfFits (pageOf lo)
-half-fits lo = record { pfn = field-lt lo 25 6; c = field-lt lo 5 3 }
-
--- the registers' entry fits
-entry-fits : (c : Cop0) → Fits (entryOf c)
-unfolding entryOf
-entry-fits c =
-    let x = readOf c PageMask in
-    let v = readOf c EntryHi in
-    let l = left x v in
-    let shifted : fieldOf (l * 2 ^ 13) 39 13 * 2 ^ 13 ≡ l * 2 ^ 13 = omega (arith, left-lt x v) in
-    record {
-      mask = omega (arith, pairs-small 6 (x / 2 ^ 13) (omega arith));
-      vpn2 = rw (left-at x v) shifted;
-      asid = field-lt v 7 0;
-      region = field-lt v 63 62;
-      lo0 = half-fits (readOf c EntryLo0);
-      lo1 = half-fits (readOf c EntryLo1);
-    }
-
 -- `write_entry`: the words and the micro-TLB after it are the written table's
 pub written : (ws : List ℕ) → length ws ≡ 128 → (m : Micro) (i : ℕ) (c : Cop0)
     → tableIn (putEntry ws (i % 32) (entryOf c)) (microOf (writtenOf (tableIn ws m) i c)) ≡ writtenOf (tableIn ws m) i c
 unfolding writtenOf
-written ws long m i c = rw (put-table ws long (i % 32) (entryOf c) (omega arith) (entry-fits c))
-
-fresh-fits : (k : ℕ) → k < 32 → Fits (freshEntry k)
-fresh-fits k h =
-    let zero-fits : HalfFits (freshEntry k .lo0) = record { pfn = omega arith; c = omega arith } in
-    record { mask = omega arith; vpn2 = omega arith; asid = omega arith; region = omega arith; lo0 = zero-fits; lo1 = zero-fits }
+written ws long m i c = rw (put-table ws long (i % 32) (entryOf c) (omega arith) (entry-sound c))
 
 module _ (ws : List ℕ) (long : length ws ≡ 128) where
   fresh-long : (n : ℕ) → length (freshWords n ws) ≡ 128
@@ -213,7 +169,7 @@ module _ (ws : List ℕ) (long : length ws ≡ 128) where
       go : Dec (k ≡ n) → (k < n → entryIn (freshWords n ws) k ≡ freshEntry k)
           → entryIn (putEntry (freshWords n ws) n (freshEntry n)) k ≡ freshEntry k
       go (yes q) before =
-          rw q (put-same (freshWords n ws) (fresh-long n) n (freshEntry n) (omega arith) (fresh-fits n (omega arith)))
+          rw q (put-same (freshWords n ws) (fresh-long n) n (freshEntry n) (omega arith) (fresh-sound n (omega arith)))
       go (no q) before =
           put-other (freshWords n ws) (fresh-long n) n (freshEntry n) k q ∙ before (omega (arith, q))
 
@@ -252,8 +208,8 @@ module _ (ws : List ℕ) (m : Micro) where
   translated-keeps v asid a = by-segment (segmentOf a v)
     where
       by-segment : (g : Segment)
-          → addr.tableBy g (tableIn ws m) (lookupTable (tableIn ws m) v asid)
-          ≡ tableIn ws (microOf (addr.tableBy g (tableIn ws m) (lookupTable (tableIn ws m) v asid)))
+          → segmentTable g (tableIn ws m) (lookupTable (tableIn ws m) v asid)
+          ≡ tableIn ws (microOf (segmentTable g (tableIn ws m) (lookupTable (tableIn ws m) v asid)))
       by-segment (Direct p c) = refl
       by-segment Mapped = looked-keeps v asid
       by-segment Invalid = refl

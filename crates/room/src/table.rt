@@ -6,7 +6,7 @@ ghost use Prim.Native.Nat.{_+_, _%_, _<_};
 ghost use Rattle.tlb.specs.declared.entries.LookupAnswer.the-variants.{Fault};
 ghost use Rattle.tlb.specs.declared.entries.TlbFault.the-variants.{Refill};
 ghost use Rattle.tlb.specs.Entries.{pageSizeOf, pairSizeOf, uncachedOf, faultNumber};
-ghost use Rattle.tlb.specs.Table.{freshTable, matching, hitsOf};
+ghost use Rattle.tlb.specs.Table.{freshTable, matching, headOf, several};
 ghost use Rattle.tlb.specs.Lookup.{lookupAnswer, lookupTable};
 ghost use Rattle.tlb.specs.Moves.{entryOf, writtenOf, readEntryOf, probeOf, pageOf};
 ghost use Rattle.tlb.specs.Micro.{hasMatchOf, slotHits, probedOf, filledOf};
@@ -234,8 +234,8 @@ fn index_for(words: &[u64; 128], hi: u64) -> u64
 
 // `Tlb::scan` over the lent words: it stops at the second match.
 fn scan(words: &[u64; 128], vaddr: u64, asid: u8) -> Scanned
-    ensures { λ r. ⌜ (r .first ≡ hitsOf (matching (entriesIn (now (words .entry))) vaddr asid 0) .first)
-        × (r .more ≡ hitsOf (matching (entriesIn (now (words .entry))) vaddr asid 0) .more) ⌝ }
+    ensures { λ r. ⌜ (r .first ≡ headOf (matching (entriesIn (now (words .entry))) vaddr asid 0))
+        × (r .more ≡ several (matching (entriesIn (now (words .entry))) vaddr asid 0)) ⌝ }
 {
     let tag = tag_of(vaddr);
     let mut found: usize = 32;

@@ -3,3 +3,4 @@ pub mod Answers
 pub mod Step
 pub mod Run
 pub mod Plain
+pub mod Made

@@ -8,7 +8,6 @@ use cop0::Cop0;
 use tlb::Tlb;
 
 // All that a room's members must agree on.
-#[repr(C)]
 pub struct Session {
     pub cop0: Cop0,
     pub tlb: Tlb,

@@ -5,6 +5,11 @@ pub mod Sizes
 pub mod Looking
 pub mod Reading
 pub mod Answers
+pub mod OnlyMatch
 pub mod Agreement
 pub mod Unique
+pub mod WordLaws
+pub mod Sound
+pub mod ReadBack
 pub mod RoundTrip
+pub mod Moving

@@ -13,15 +13,17 @@ use borrow.Author.Tests.{eq-eqb, ne-eqb, eqb-true, le-leb, lt-leb, lt-ltb, le-lt
 use Rattle.bits.specs.Field.{fieldOf}
 use Rattle.bits.specs.Mask.{merged}
 use Rattle.bits.specs.Extension.{low32Of}
+use Rattle.bits.proofs.FieldLaws.{field-lt}
 use Rattle.bits.proofs.MaskLaws.{merged-low, merged-shift}
 use Rattle.bits.proofs.Tables.{at-each}
 use Rattle.cop0.specs.declared.registers.Cop0.{Cop0}
+use Rattle.cop0.specs.Registers.{EntryLo0, EntryLo1, PageMask, EntryHi}
 use Rattle.cop0.specs.File.{readOf}
 use Rattle.tlb.specs.declared.entries.Entry.{Entry}
 use Rattle.tlb.specs.declared.entries.PageEntry.{PageEntry}
 use Rattle.tlb.specs.Entries.{vpn2Of, matchesOf, pageSizeOf, halfOf, physicalOf, halfAnswer, entryAnswer}
-use Rattle.tlb.specs.Moves.{EntryHi, maskOf, entryOf}
-use Rattle.tlb.specs.Manual.{sizeAt, maskAt, matchesAt, halfAt, addressAt, pageAnswerAt}
+use Rattle.tlb.specs.Moves.{pairs, canonicalOf, writtenMask, entryOf}
+use Rattle.tlb.specs.Manual.{sizeAt, maskAt, matchesAt, halfAt, addressAt, pageAnswerAt, entryOfSize}
 
 -- the page sizes of table 5-7
 pub size-is : (k : ℕ) → k ≤ 6 → pageSizeOf (maskAt k) ≡ sizeAt k
@@ -144,11 +146,41 @@ answer-is k h e m h₀ h₁ v store =
     either true = h₀
     either false = h₁
 
--- a write makes such entries: the base is a multiple of the pair, and frame numbers have 20 bits
-pub written-base : (k : ℕ) → k ≤ 6 → (c : Cop0) → maskOf c ≡ maskAt k → entryOf c .vpn2 % (2 * sizeAt k) ≡ 0
-unfolding entryOf
-written-base k h c m = rw (m, vpn2-is k (readOf c EntryHi) h, two-pages k) (mul-mod-left _ (2 * sizeAt k))
+-- the masks of table 5-7 are canonical: a write keeps each of them as it is
+pub canonical-at : (k : ℕ) → k ≤ 6 → canonicalOf (maskAt k) ≡ maskAt k
+unfolding pairs
+canonical-at k h = eqb-true _ _ (at-each 7 (λ k. eqb (canonicalOf (maskAt k)) (maskAt k)) refl k (omega arith))
 
-pub written-frames : (c : Cop0) → (entryOf c .lo0 .pfn < 2 ^ 20) × (entryOf c .lo1 .pfn < 2 ^ 20)
-unfolding entryOf
-written-frames c = (omega arith, omega arith)
+-- so what a write makes with PageMask at size k is the manual's entry, and matches and answers as the manual has it
+module _ (k : ℕ) (h : k ≤ 6) (c : Cop0) (size : readOf c PageMask ≡ maskAt k) where
+  mask-is : writtenMask c ≡ maskAt k
+  mask-is = ap canonicalOf size ∙ canonical-at k h
+
+  pub written-is : entryOf c ≡ entryOfSize k (readOf c EntryHi) (readOf c EntryLo0) (readOf c EntryLo1)
+  unfolding entryOf
+  written-is = rw (mask-is, vpn2-is k (readOf c EntryHi) h, two-pages k)
+
+  -- of page size k
+  of-size : entryOf c .«page_mask» ≡ maskAt k
+  unfolding entryOf
+  of-size = mask-is
+
+  -- the base is a multiple of the pair
+  at-pair : entryOf c .vpn2 % (2 * sizeAt k) ≡ 0
+  at-pair = ap (λ (e : Entry). e .vpn2 % (2 * sizeAt k)) written-is ∙ mul-mod-left _ (2 * sizeAt k)
+
+  pub written-matches : (v asid : ℕ) → matchesOf (entryOf c) v asid ≡ matchesAt k (entryOf c) v asid
+  written-matches = match-is k h (entryOf c) of-size at-pair
+
+  -- frame numbers have 20 bits
+  frame₀ : entryOf c .lo0 .pfn < 2 ^ 20
+  unfolding entryOf
+  frame₀ = field-lt (readOf c EntryLo0) 25 6
+
+  frame₁ : entryOf c .lo1 .pfn < 2 ^ 20
+  unfolding entryOf
+  frame₁ = field-lt (readOf c EntryLo1) 25 6
+
+  pub written-answers : (v : ℕ) (store : Bool)
+      → entryAnswer (entryOf c) v store ≡ pageAnswerAt k (halfAt k (entryOf c) v) v store
+  written-answers = answer-is k h (entryOf c) of-size frame₀ frame₁

@@ -14,7 +14,7 @@ use borrow.Author.Tests.{lt-ltb, le-ltb}
 use Rattle.tlb.specs.declared.entries.Entry.{Entry}
 use Rattle.tlb.specs.declared.table.Hits.{Hits}
 use Rattle.tlb.specs.Entries.{matchesOf}
-use Rattle.tlb.specs.Table.{matching, hitsOf}
+use Rattle.tlb.specs.Table.{matching, headOf, several, hitsOf}
 
 -- the number in hand, where 32 says that there is none, before the rest
 abbrev pub held : ℕ → List ℕ → List ℕ
@@ -58,6 +58,10 @@ module _ (es : List Entry) (v asid : ℕ) where
       pub second : f < 32 → matchesOf (getD es i d) v asid ≡ true → hits f true ≡ hitsOf l
       second n m = sym (ap hitsOf (all ∙ ap (held f) (hit i d (omega arith) m)) ∙ simp (lt-ltb f 32 n))
 
+      -- by its parts
+      pub second-parts : f < 32 → matchesOf (getD es i d) v asid ≡ true → (f ≡ headOf l) × (true ≡ several l)
+      second-parts n m = (ap (λ (h : Hits). h .first) (second n m), ap (λ (h : Hits). h .more) (second n m))
+
     pub ended : 32 ≤ i → f ≤ 32 → hits f false ≡ hitsOf l
     ended h n = sym (ap hitsOf (all ∙ ap (held f) (past i (omega arith))) ∙ go (decLt f 32))
       where
@@ -66,3 +70,6 @@ module _ (es : List Entry) (v asid : ℕ) where
         go (no p) =
             let e : f ≡ 32 = omega arith in
             rw e
+
+    pub ended-parts : 32 ≤ i → f ≤ 32 → (f ≡ headOf l) × (false ≡ several l)
+    ended-parts h n = (ap (λ (x : Hits). x .first) (ended h n), ap (λ (x : Hits). x .more) (ended h n))

@@ -31,7 +31,7 @@ uncached-unique a r r′ = same
 
 pub answer-unique : (a : Entry × (ℕ × (Bool × Unit {0}))) (r r′ : LookupAnswer) → entry-answer.Post tt a r a → entry-answer.Post tt a r′ a
     → r ≡ r′
-answer-unique a r r′ = same
+answer-unique a r r′ p q = lookup-one r r′ (same p q)
 
 pub new-unique : (a : Unit {0}) (r r′ : Tlb) → new.Post tt a r a → new.Post tt a r′ a → r ≡ r′
 new-unique a r r′ = same

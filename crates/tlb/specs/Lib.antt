@@ -4,3 +4,4 @@ pub mod Lookup
 pub mod Micro
 pub mod Moves
 pub mod Manual
+pub mod Sound

@@ -8,6 +8,7 @@ use Rattle.tlb.specs.declared.entries.Entry.{Entry}
 use Rattle.tlb.specs.declared.entries.LookupAnswer.{LookupAnswer}
 use Rattle.tlb.specs.declared.entries.LookupAnswer.the-variants.{Found}
 use Rattle.tlb.specs.Entries.{uncachedOf, permitted}
+use Rattle.tlb.specs.Moves.{pageOf, globalOf}
 
 -- page size k, from 0 (4 KiB) to 6 (16 MiB), and its mask: ones from bit 13 up
 abbrev pub sizeAt : ℕ → ℕ
@@ -37,3 +38,20 @@ translatedAt k p v = Found (record { addr = addressAt k (p .pfn) v; uncached = u
 
 abbrev pub pageAnswerAt : ℕ → PageEntry → ℕ → Bool → LookupAnswer
 pageAnswerAt k p v store = permitted p store (translatedAt k p v)
+
+-- the pair that an address lies in: its base, a multiple of two pages
+abbrev pub pairAt : ℕ → ℕ → ℕ
+pairAt k v = fieldOf v 39 0 / (2 * sizeAt k) * (2 * sizeAt k)
+
+-- the entry that a write makes of PageMask at size k, EntryHi, EntryLo0 and EntryLo1
+abbrev pub entryOfSize : ℕ → ℕ → ℕ → ℕ → Entry
+entryOfSize k hi lo0 lo1 =
+    record {
+      «page_mask» = maskAt k;
+      vpn2 = pairAt k hi;
+      asid = fieldOf hi 7 0;
+      global = globalOf lo0 lo1;
+      region = fieldOf hi 63 62;
+      lo0 = pageOf lo0;
+      lo1 = pageOf lo1;
+    }

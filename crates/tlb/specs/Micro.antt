@@ -7,7 +7,7 @@ use lib.ListN.{getD, set}
 use Rattle.tlb.specs.declared.table.Tlb.{Tlb}
 use Rattle.tlb.specs.declared.micro.ItlbProbed.{ItlbProbed}
 use Rattle.tlb.specs.Entries.{matchesOf}
-use Rattle.tlb.specs.Table.{entryAt, matching, hitsOf}
+use Rattle.tlb.specs.Table.{entryAt, matching, headOf}
 
 -- the table with other micro-TLB slots and another next slot
 abbrev pub withItlb : Tlb → List ℕ → ℕ → Tlb
@@ -15,7 +15,7 @@ withItlb t slots next = record { entries = t .entries; itlb = slots; «itlb_lru�
 
 -- the lowest entry that matches, or 32
 unfoldable pub lowest : Tlb → ℕ → ℕ → ℕ
-lowest t v asid = hitsOf (matching (t .entries) v asid 0) .first
+lowest t v asid = headOf (matching (t .entries) v asid 0)
 
 -- no once shut down
 unfoldable pub hasMatchOf : Tlb → ℕ → ℕ → Bool

@@ -7,6 +7,7 @@ use lib.Bits.{bitOr}
 use lib.ListN.{set}
 use Rattle.bits.specs.Field.{fieldOf, bit}
 use Rattle.cop0.specs.declared.registers.Cop0.{Cop0}
+use Rattle.cop0.specs.Registers.{Index, EntryLo0, EntryLo1, PageMask, EntryHi}
 use Rattle.cop0.specs.File.{readOf, setHardwareOf}
 use Rattle.tlb.specs.declared.entries.PageEntry.{PageEntry}
 use Rattle.tlb.specs.declared.entries.Entry.{Entry}
@@ -14,22 +15,6 @@ use Rattle.tlb.specs.declared.table.Tlb.{Tlb}
 use Rattle.tlb.specs.Entries.{vpn2Of}
 use Rattle.tlb.specs.Table.{entryAt}
 use Rattle.tlb.specs.Micro.{lowest}
-
--- the registers by number: Index, EntryLo0, EntryLo1, PageMask, EntryHi
-abbrev pub Index : ℕ
-Index = 0
-
-abbrev pub EntryLo0 : ℕ
-EntryLo0 = 2
-
-abbrev pub EntryLo1 : ℕ
-EntryLo1 = 3
-
-abbrev pub PageMask : ℕ
-PageMask = 5
-
-abbrev pub EntryHi : ℕ
-EntryHi = 10
 
 -- the lowest n pairs of bits of x, each 11 where its upper bit is 1, else 00
 unfoldable pub pairs : ℕ → ℕ → ℕ
@@ -54,15 +39,15 @@ pageOf lo =
 unfoldable pub globalOf : ℕ → ℕ → Bool
 globalOf lo0 lo1 = eqb (fieldOf lo0 0 0) 1 && eqb (fieldOf lo1 0 0) 1
 
-abbrev pub maskOf : Cop0 → ℕ
-maskOf c = canonicalOf (readOf c PageMask)
+abbrev pub writtenMask : Cop0 → ℕ
+writtenMask c = canonicalOf (readOf c PageMask)
 
 -- EntryHi: R 63..62, VPN2 39..13, ASID 7..0
 unfoldable pub entryOf : Cop0 → Entry
 entryOf c =
     record {
-      «page_mask» = maskOf c;
-      vpn2 = vpn2Of (maskOf c) (readOf c EntryHi);
+      «page_mask» = writtenMask c;
+      vpn2 = vpn2Of (writtenMask c) (readOf c EntryHi);
       asid = fieldOf (readOf c EntryHi) 7 0;
       global = globalOf (readOf c EntryLo0) (readOf c EntryLo1);
       region = fieldOf (readOf c EntryHi) 63 62;

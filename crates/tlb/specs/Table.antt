@@ -1,7 +1,8 @@
 -- The table: its fresh entries, and which of its entries match an address.
-use mathlib.Core.Bool.{true, false, cond}
+use mathlib.Core.Bool.{Bool, true, false, cond, _&&_}
 use mathlib.Core.List.{List, [], _∷_}
 use Prim.Native.Nat.{ℕ, zero, suc, _-_, _*_}
+use lib.Dec.{leb}
 use lib.ListN.{getD}
 use Rattle.tlb.specs.declared.entries.PageEntry.{PageEntry}
 use Rattle.tlb.specs.declared.entries.Entry.{Entry}
@@ -37,8 +38,22 @@ unfoldable pub matching : List Entry → ℕ → ℕ → ℕ → List ℕ
 matching [] v asid i = []
 matching (e ∷ es) v asid i = cond (matchesOf e v asid) (i ∷ matching es v asid (suc i)) (matching es v asid (suc i))
 
--- the lowest of them, or 32, and whether there are two or more
+-- a rising list of numbers from b up
+unfoldable pub risingFrom : ℕ → List ℕ → Bool
+risingFrom b [] = true
+risingFrom b (i ∷ is) = leb b i && risingFrom (suc i) is
+
+-- the first of a list, or 32
+abbrev pub headOf : List ℕ → ℕ
+headOf [] = 32
+headOf (i ∷ is) = i
+
+-- two or more
+abbrev pub several : List ℕ → Bool
+several [] = false
+several (i ∷ []) = false
+several (i ∷ j ∷ is) = true
+
+-- what the scan answers of them
 abbrev pub hitsOf : List ℕ → Hits
-hitsOf [] = record { first = 32; more = false }
-hitsOf (i ∷ []) = record { first = i; more = false }
-hitsOf (i ∷ j ∷ is) = record { first = i; more = true }
+hitsOf l = record { first = headOf l; more = several l }

@@ -1,6 +1,6 @@
 // One entry: a tag and the pair of pages that it maps.
 ghost use mathlib.Core.Path.{_≡_};
-ghost use Rattle.tlb.specs.Entries.{uncachedOf, matchesOf, pairSizeOf, pageSizeOf, halfOf, translated, halfAnswer, entryAnswer};
+ghost use Rattle.tlb.specs.Entries.{uncachedOf, matchesOf, pairSizeOf, pageSizeOf, halfOf, translated, halfAnswer, entryAnswer, toldLookup};
 
 // One half of an entry: the even or the odd page.
 #[repr(C)]
@@ -130,7 +130,7 @@ impl Entry {
 
     // What the one matching entry answers.
     pub fn answer(self, vaddr: u64, store: bool) -> LookupAnswer
-        ensures { λ r. ⌜ r ≡ entryAnswer self vaddr store ⌝ }
+        ensures { λ r. ⌜ toldLookup r ≡ toldLookup (entryAnswer self vaddr store) ⌝ }
     {
         let half = self.half(vaddr);
         half.answer(page_bytes(self.page_mask) - 1, vaddr, store)

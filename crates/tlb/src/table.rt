@@ -11,7 +11,6 @@ use crate::entries::TlbFault;
 use crate::entries::page_bytes;
 use crate::entries::pair_bytes;
 
-#[repr(C)]
 pub struct Tlb {
     pub entries: [Entry; 32],
     // The micro-TLB: two entry numbers, 32 for an empty slot. Numbers and no copies, so that it cannot serve an entry that

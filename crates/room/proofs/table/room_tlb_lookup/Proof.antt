@@ -1,5 +1,7 @@
 -- By what the scan found.
 use mathlib.Core.Path.{_∙_}
+use Rattle.tlb.specs.Entries.{entryAnswer}
+use Rattle.tlb.proofs.Answers.{lookup-one}
 use Rattle.room.proofs.Words.{when-shut, when-more, when-one, when-none}
 use borrow.Author.Needs.{needs}
 use Rattle.room.proofs.table.room_tlb_lookup.Statement.{statement}
@@ -36,7 +38,9 @@ told-requires c κs = search needs
 returns-3 : tie.Need-returns-3
 returns-3 c =
     let s = c .before .before .before .before .before .before in
-    c .told .ensures ∙ rw (c .before .answer .ensures, c .before .before .entry-in .ensures) (when-one _ _ _ _ _ (s .before .if1 .left) _ _ (s .scan .ensures .0) (s .scan .ensures .1) (c .before .before .before .before .before .if2 .left) (c .before .before .before .if3 .taken))
+    let a = s .before .before .args in
+    let same = lookup-one (c .before .answer .result) (entryAnswer (c .before .before .entry-in .result) (a .vaddr) (a .store)) (c .before .answer .ensures) in
+    c .told .ensures ∙ rw (same, c .before .before .entry-in .ensures) (when-one _ _ _ _ _ (s .before .if1 .left) _ _ (s .scan .ensures .0) (s .scan .ensures .1) (c .before .before .before .before .before .if2 .left) (c .before .before .before .if3 .taken))
 
 refill-requires-3 : tie.Need-refill-requires-3
 refill-requires-3 c κs = search needs

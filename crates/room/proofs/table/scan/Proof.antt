@@ -6,7 +6,7 @@ use native.Mathlib.Omega.{arith}
 use lib.ListN.{drop}
 use borrow.Author.Needs.{needs}
 use Rattle.tlb.specs.Table.{withVpn2, matching}
-use Rattle.tlb.proofs.Scanning.{held, turn-hit, turn-miss, second, ended}
+use Rattle.tlb.proofs.Scanning.{held, turn-hit, turn-miss, second-parts, ended-parts}
 use Rattle.room.specs.Table.{entriesIn}
 use Rattle.room.proofs.Words.{entries-long, told-at, asked-at}
 use Rattle.room.proofs.table.scan.Statement.{statement}
@@ -37,9 +37,8 @@ returns c =
     let below = c .before .before .before .loop-test .taken in
     let asked = told-at ws (a .vaddr) (a .asid) (b .loop .i) _ (b .before .tag-of .ensures) _ (c .before .before .tag-hits .ensures) in
     let hit = asked-at ws (a .vaddr) (a .asid) (b .loop .i) below (asked ∙ c .before .if1 .taken) in
-    let q = second (entriesIn ws) (a .vaddr) (a .asid) (entries-long _) (b .loop .found) (b .loop .i) (b .loop .inv .2) (withVpn2 0) below
-    (c .if2 .taken) hit in
-    (rw (← q), rw (← q))
+    second-parts (entriesIn ws) (a .vaddr) (a .asid) (entries-long _) (b .loop .found) (b .loop .i) (b .loop .inv .2) (withVpn2 0) below
+    (c .if2 .taken) hit
 
 add-i : tie.Need-add-i Inv-loop μ-loop
 add-i c = search needs
@@ -68,9 +67,8 @@ returns-2 : tie.Need-returns-2 Inv-loop μ-loop
 returns-2 c =
     let b = c .before in
     let a = b .before .before .args in
-    let q = ended (entriesIn (a .words .now)) (a .vaddr) (a .asid) (entries-long _) (b .loop .found) (b .loop .i) (b .loop .inv .2)
-    (c .loop-test .left) (b .loop .inv .1) in
-    (rw (← q), rw (← q))
+    ended-parts (entriesIn (a .words .now)) (a .vaddr) (a .asid) (entries-long _) (b .loop .found) (b .loop .i) (b .loop .inv .2)
+    (c .loop-test .left) (b .loop .inv .1)
 
 pub scan-spec : {M : Type 1} → statement M
 scan-spec =

@@ -43,7 +43,7 @@ returns-3 c =
     let r = found (a .t1) (a .vaddr) (a .asid) (a .store) (c .before .before .before .before .before .if1 .left) _
     (c .before .before .before .before .scan .ensures) (c .before .before .before .if2 .left)
     (c .before .before .if3 .taken) in
-    (ap toldLookup (c .answer .ensures ∙ r .0), r .1)
+    (c .answer .ensures ∙ ap toldLookup (r .0), r .1)
 
 fault-requires-3 : tie.Need-fault-requires-3
 fault-requires-3 c κs = search needs

@@ -1,0 +1,145 @@
+-- An entry is sound exactly where reading it into the registers and writing it back leaves it as it is.
+use mathlib.Core.Path.{_≡_, refl, ap, sym, subst, _∙_}
+use mathlib.Core.Bool.{Bool, true, false, _&&_}
+use Prim.Native.Nat.{ℕ, _+_, _*_, _%_, _^_, _<_}
+use native.Mathlib.Omega.{arith}
+use lib.Bits.{bitOr}
+use lib.ListN.{length}
+use Rattle.bits.specs.Field.{fieldOf}
+use Rattle.bits.specs.Mask.{under, cleared}
+use Rattle.cop0.specs.declared.registers.Cop0.{Cop0}
+use Rattle.cop0.specs.Registers.{EntryLo0, EntryLo1, PageMask, EntryHi, among, unused, archMask}
+use Rattle.cop0.specs.File.{readAt, readOf, setHardwareOf}
+use Rattle.cop0.proofs.Hardware.{set-file, read-past, read-back}
+use Rattle.tlb.specs.declared.entries.Entry.{Entry}
+use Rattle.tlb.specs.declared.table.Tlb.{Tlb}
+use Rattle.tlb.specs.Entries.{vpn2Of}
+use Rattle.tlb.specs.Table.{entryAt}
+use Rattle.tlb.specs.Moves.{globalOf, entryOf, loOf, hiOf, readEntryOf}
+use Rattle.tlb.specs.Sound.{Sound, SoundTable}
+use Rattle.tlb.proofs.WordLaws.{
+  mask-kept,
+  left,
+  left-at,
+  left-lt,
+  hi,
+  hi-joined,
+  hi-kept,
+  hi-region,
+  hi-vpn2,
+  hi-asid,
+  lo,
+  lo-joined,
+  lo-kept,
+  lo-g,
+  lo-page,
+}
+use Rattle.tlb.proofs.Sound.{entry-sound}
+
+both : (g : Bool) → (g && g) ≡ g
+both true = refl
+both false = refl
+
+-- VPN2 is a number below 2^27 at bit 13
+module _ (e : Entry) (s : Sound e) where
+  abbrev pub w : ℕ
+  w = left (e .«page_mask») (e .vpn2)
+
+  abbrev pub w-lt : w < 2 ^ 27
+  w-lt = left-lt (e .«page_mask») (e .vpn2)
+
+  pub w-at : w * 2 ^ 13 ≡ e .vpn2
+  w-at = sym (left-at (e .«page_mask») (e .vpn2)) ∙ ap (λ (m : ℕ). vpn2Of m (e .vpn2)) (s .mask) ∙ s .vpn2
+
+  abbrev pub word : ℕ
+  word = hi (e .region) w (e .asid) (s .region) w-lt (s .asid)
+
+  hi-word : hiOf e ≡ word
+  hi-word =
+      ap (λ (v : ℕ). bitOr (bitOr (e .region % 4 * 2 ^ 62) v) (e .asid)) (sym w-at)
+      ∙ hi-joined (e .region) w (e .asid) (s .region) w-lt (s .asid)
+
+  vpn2-back : vpn2Of (e .«page_mask») word ≡ e .vpn2
+  vpn2-back =
+      let f : fieldOf (e .vpn2) 39 13 ≡ w = ap (λ (v : ℕ). fieldOf v 39 13) (sym w-at) ∙ omega (arith, w-lt) in
+      ap (λ (x : ℕ). cleared (e .«page_mask») (x * 2 ^ 13)) (hi-vpn2 (e .region) w (e .asid) (s .region) w-lt (s .asid) ∙ sym f) ∙ s .vpn2
+
+-- the four registers that a sound entry is read into
+module _ (e : Entry) (s : Sound e) (d : Cop0) (file : length (d .regs) ≡ 32) where
+  abbrev pub d₁ : Cop0
+  d₁ = setHardwareOf d PageMask (e .«page_mask»)
+
+  abbrev pub d₂ : Cop0
+  d₂ = setHardwareOf d₁ EntryHi (hiOf e)
+
+  abbrev pub d₃ : Cop0
+  d₃ = setHardwareOf d₂ EntryLo0 (loOf (e .lo0) (e .global))
+
+  abbrev pub d₄ : Cop0
+  d₄ = setHardwareOf d₃ EntryLo1 (loOf (e .lo1) (e .global))
+
+  file₁ : length (d₁ .regs) ≡ 32
+  file₁ = set-file d PageMask _ 32 file
+
+  file₂ : length (d₂ .regs) ≡ 32
+  file₂ = set-file d₁ EntryHi _ 32 file₁
+
+  file₃ : length (d₃ .regs) ≡ 32
+  file₃ = set-file d₂ EntryLo0 _ 32 file₂
+
+  pub mask-read : readOf d₄ PageMask ≡ e .«page_mask»
+  unfolding readAt unused among
+  mask-read =
+      read-past PageMask (λ f. refl) EntryLo1 _ d₃ refl refl
+      ∙ read-past PageMask (λ f. refl) EntryLo0 _ d₂ refl refl
+      ∙ read-past PageMask (λ f. refl) EntryHi _ d₁ refl refl
+      ∙ read-back PageMask (λ f. refl) (omega arith) d file _ (subst (λ (m : ℕ). under (archMask PageMask) m ≡ m) (s .mask) (mask-kept (e .«page_mask»)))
+
+  pub hi-read : readOf d₄ EntryHi ≡ word e s
+  unfolding readAt unused among
+  hi-read =
+      read-past EntryHi (λ f. refl) EntryLo1 _ d₃ refl refl
+      ∙ read-past EntryHi (λ f. refl) EntryLo0 _ d₂ refl refl
+      ∙ ap (λ (y : ℕ). readOf (setHardwareOf d₁ EntryHi y) EntryHi) (hi-word e s)
+      ∙ read-back EntryHi (λ f. refl) (omega arith) d₁ file₁ _ (hi-kept (e .region) (w e s) (e .asid) (s .region) (w-lt e s) (s .asid))
+
+  pub lo0-read : readOf d₄ EntryLo0 ≡ lo (e .lo0) (e .global) (s .lo0)
+  unfolding readAt unused among archMask
+  lo0-read =
+      read-past EntryLo0 (λ f. refl) EntryLo1 _ d₃ refl refl
+      ∙ ap (λ (y : ℕ). readOf (setHardwareOf d₂ EntryLo0 y) EntryLo0) (lo-joined (e .lo0) (e .global) (s .lo0))
+      ∙ read-back EntryLo0 (λ f. refl) (omega arith) d₂ file₂ _ (lo-kept (e .lo0) (e .global) (s .lo0))
+
+  pub lo1-read : readOf d₄ EntryLo1 ≡ lo (e .lo1) (e .global) (s .lo1)
+  unfolding readAt unused among archMask
+  lo1-read =
+      ap (λ (y : ℕ). readOf (setHardwareOf d₃ EntryLo1 y) EntryLo1) (lo-joined (e .lo1) (e .global) (s .lo1))
+      ∙ read-back EntryLo1 (λ f. refl) (omega arith) d₃ file₃ _ (lo-kept (e .lo1) (e .global) (s .lo1))
+
+  pub back : entryOf d₄ ≡ e
+  unfolding entryOf globalOf
+  back =
+      rw (
+        mask-read,
+        hi-read,
+        lo0-read,
+        lo1-read,
+        s .mask,
+        vpn2-back e s,
+        hi-region (e .region) (w e s) (e .asid) (s .region) (w-lt e s) (s .asid),
+        hi-asid (e .region) (w e s) (e .asid) (s .region) (w-lt e s) (s .asid),
+        lo-g (e .lo0) (e .global) (s .lo0),
+        lo-g (e .lo1) (e .global) (s .lo1),
+        both (e .global),
+        lo-page (e .lo0) (e .global) (s .lo0),
+        lo-page (e .lo1) (e .global) (s .lo1),
+      )
+
+-- so that reading a sound entry and writing it back leaves it
+pub read-sound : (t : Tlb) → SoundTable t → (i : ℕ) (c : Cop0) → length (c .regs) ≡ 32 → entryOf (readEntryOf t i c) ≡ entryAt t (i % 32)
+unfolding readEntryOf
+read-sound t s i c file = back (entryAt t (i % 32)) (s .each (i % 32) (omega arith)) c file
+
+-- and an entry that reading and writing back leaves is sound: the definition leaves none out
+pub unaltered-sound : (t : Tlb) (i : ℕ) (c : Cop0) → entryOf (readEntryOf t i c) ≡ entryAt t (i % 32) → Sound (entryAt t (i % 32))
+unaltered-sound t i c e = subst Sound e (entry-sound (readEntryOf t i c))
