@@ -1,16 +1,16 @@
 -- The fresh register file is one that operations can make, and every operation of a session makes another.
-use mathlib.Core.Path.{_≡_, refl, ap, sym, subst, _∙_}
+use mathlib.Core.Path.{_≡_, refl, sym, subst, _∙_}
 use mathlib.Core.Bool.{Bool, true, false, cond}
 use Prim.Native.Nat.{ℕ, zero, suc, _+_, _-_, _%_, _^_, _<_, _≤_}
 use native.Mathlib.Decide.{ℕ-discrete}
 use native.Mathlib.Omega.{arith}
 use lib.Dec.{T, eqb, ltb, ltb→lt}
-use lib.Bits.{bitAnd, and-mask}
+use lib.Bits.{and-mask}
 use lib.ListN.{length, length-set}
 use lib.Seq.{getD-set-same, getD-set-other}
 use borrow.Author.Tests.{eqb-true}
 use Rattle.bits.specs.Field.{fieldOf, bit}
-use Rattle.bits.specs.Mask.{under, merged}
+use Rattle.bits.specs.Mask.{under}
 use Rattle.bits.specs.Extension.{low32Of}
 use Rattle.bits.proofs.FieldLaws.{field-lt}
 use Rattle.bits.proofs.MaskLaws.{merged-kept, under-again, under-ones}
