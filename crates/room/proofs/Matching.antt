@@ -15,6 +15,7 @@ use Rattle.bits.specs.Extension.{low32Of}
 use Rattle.bits.proofs.FieldLaws.{field-lt}
 use Rattle.bits.proofs.MaskLaws.{merged-none, cleared-le}
 use Rattle.tlb.specs.Entries.{matchesOf}
+use Rattle.tlb.specs.Words.{entryOfWords}
 use Rattle.room.specs.Table.{wordIn, entryIn, tagOf, tagHits}
 
 -- a mask of k bits clears nothing above them
@@ -44,7 +45,7 @@ parts r s a b ha hb = go (ℕ-discrete r s) (ℕ-discrete a b)
     go (no p) q = rw (ne-eqb r s p) (ne-eqb (r * 2 ^ 62 + a) (s * 2 ^ 62 + b) (λ e. p (omega (arith, e))))
 
 pub tag-hits-is : (ws : List ℕ) (i v asid : ℕ) → tagHits ws i (tagOf v) asid ≡ matchesOf (entryIn ws i) v asid
-unfolding tagHits matchesOf entryIn
+unfolding tagHits matchesOf entryIn entryOfWords
 tag-hits-is ws i v asid =
     let m = low32Of (getD ws (4 * i) 0) in
     let x = wordIn ws i 1 in

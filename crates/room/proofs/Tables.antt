@@ -2,62 +2,32 @@
 use mathlib.Core.Path.{_≡_, refl, sym, _∙_}
 use mathlib.Core.Bool.{Bool, true, false, cond}
 use mathlib.Core.List.{List, [], _∷_}
-use Prim.Native.Nat.{ℕ, zero, suc, _+_, _-_, _*_, _%_, _^_, _<_}
+use Prim.Native.Nat.{ℕ, zero, suc, _+_, _-_, _*_, _%_, _<_}
 use native.Mathlib.Omega.{arith}
 use native.Mathlib.Decide.{ℕ-discrete}
-use lib.Dec.{eqb, ltb}
+use lib.Dec.{ltb}
 use lib.ListN.{length, getD, set, length-set}
 use lib.Seq.{ext-getD, getD-set-same, getD-set-other}
-use Rattle.bits.specs.Field.{fieldOf, bit}
-use Rattle.bits.proofs.FieldLaws.{field-lt, bit-undone, a-bit}
 use Rattle.cop0.specs.declared.registers.Cop0.{Cop0}
-use Rattle.tlb.specs.declared.entries.PageEntry.{PageEntry}
 use Rattle.tlb.specs.declared.entries.Entry.{Entry}
 use Rattle.tlb.specs.Table.{withVpn2, freshEntry, freshTable, matching}
 use Rattle.tlb.specs.Lookup.{tableBy, lookupTable}
 use Rattle.tlb.specs.declared.micro.ItlbProbed.{ItlbProbed}
 use Rattle.tlb.specs.Micro.{withItlb, lowest, slotHits, probedOf, filledOf}
-use Rattle.tlb.specs.Moves.{pageOf, entryOf, writtenOf}
+use Rattle.tlb.specs.Moves.{entryOf, writtenOf}
+use Rattle.tlb.specs.Words.{hiWord, loWord}
 use Rattle.addr.specs.declared.access.Access.{Access}
 use Rattle.addr.specs.declared.segments.Segment.{Segment}
 use Rattle.addr.specs.declared.segments.Segment.the-variants.{Direct, Mapped, Invalid}
 use Rattle.addr.specs.Segments.{segmentOf}
 use Rattle.addr.specs.Translate.{segmentTable, translateTable}
 use Rattle.tlb.proofs.Freshly.{fresh}
-use Rattle.tlb.specs.Sound.{SoundHalf, Sound}
-use Rattle.tlb.proofs.Sound.{sound-mask, sound-vpn2, entry-sound, fresh-sound}
+use Rattle.tlb.specs.Sound.{Sound}
+use Rattle.tlb.proofs.Sound.{entry-sound, fresh-sound}
+use Rattle.tlb.proofs.Words.{words-back}
 use Rattle.room.specs.declared.table.Micro.{Micro}
-use Rattle.room.specs.Table.{entryIn, entriesIn, tableIn, microOf, hiWord, loWord, putEntry, freshWords}
+use Rattle.room.specs.Table.{entryIn, entriesIn, tableIn, microOf, putEntry, freshWords}
 use Rattle.room.proofs.Words.{entries-long, entry-at}
-
--- the fields of EntryHi
-module _ (r w a : ℕ) (hr : r < 4) (hw : w < 2 ^ 27) (ha : a < 2 ^ 8) where
-  abbrev hi : ℕ
-  hi = r % 4 * 2 ^ 62 + w * 2 ^ 13 + a
-
-  hi-region : fieldOf hi 63 62 ≡ r
-  hi-region = omega arith
-
-  hi-vpn2 : fieldOf hi 39 13 ≡ w
-  hi-vpn2 = omega arith
-
-  hi-asid : fieldOf hi 7 0 ≡ a
-  hi-asid = omega arith
-
--- and of EntryLo
-module _ (p : PageEntry) (g : Bool) (fit : SoundHalf p) where
-  lo-g : eqb (fieldOf (loWord p g) 0 0) 1 ≡ g
-  lo-g =
-      let e : fieldOf (loWord p g) 0 0 ≡ bit g = omega (arith, a-bit g) in
-      rw e (bit-undone g)
-
-  lo-page : pageOf (loWord p g) ≡ p
-  lo-page =
-      let f : fieldOf (loWord p g) 25 6 ≡ p .pfn = omega (arith, a-bit g, a-bit (p .dirty), a-bit (p .valid), fit .pfn, fit .c) in
-      let c : fieldOf (loWord p g) 5 3 ≡ p .c = omega (arith, a-bit g, a-bit (p .dirty), a-bit (p .valid), fit .pfn, fit .c) in
-      let d : fieldOf (loWord p g) 2 2 ≡ bit (p .dirty) = omega (arith, a-bit g, a-bit (p .dirty), a-bit (p .valid)) in
-      let v : fieldOf (loWord p g) 1 1 ≡ bit (p .valid) = omega (arith, a-bit g, a-bit (p .dirty), a-bit (p .valid)) in
-      rw (f, c, d, v, bit-undone (p .dirty), bit-undone (p .valid))
 
 module _ (ws : List ℕ) (long : length ws ≡ 128) (i : ℕ) (e : Entry) where
   pub put-long : length (putEntry ws i e) ≡ 128
@@ -100,24 +70,7 @@ module _ (ws : List ℕ) (long : length ws ≡ 128) (i : ℕ) (e : Entry) where
     -- the entry that was put there
     pub put-same : Sound e → entryIn (putEntry ws i e) i ≡ e
     unfolding entryIn
-    put-same f =
-        let w = fieldOf (e .vpn2) 39 13 in
-        let small = field-lt (e .vpn2) 39 13 in
-        let m : e .«page_mask» % 2 ^ 32 ≡ e .«page_mask» = omega (arith, sound-mask e f) in
-        rw (
-          put-0,
-          put-1,
-          put-2,
-          put-3,
-          m,
-          hi-region (e .region) w (e .asid) (f .region) small (f .asid),
-          hi-vpn2 (e .region) w (e .asid) (f .region) small (f .asid),
-          hi-asid (e .region) w (e .asid) (f .region) small (f .asid),
-          sound-vpn2 e f,
-          lo-g (e .lo0) (e .global) (f .lo0),
-          lo-page (e .lo0) (e .global) (f .lo0),
-          lo-page (e .lo1) (e .global) (f .lo1),
-        )
+    put-same f = rw (put-0, put-1, put-2, put-3) (words-back e f)
 
   -- the words of another entry
   word-other : (j k : ℕ) → (j ≡ i → ⊥) → k < 4 → getD (putEntry ws i e) (4 * j + k) 0 ≡ getD ws (4 * j + k) 0

@@ -2,13 +2,12 @@
 -- EntryLo1 (figure 5-10).
 use mathlib.Core.Bool.{Bool, true, false, cond, _&&_, _||_}
 use mathlib.Core.List.{List, [], _∷_}
-use Prim.Native.Nat.{ℕ, zero, suc, _+_, _*_, _%_, _^_}
+use Prim.Native.Nat.{ℕ, zero, suc, _+_, _*_, _^_}
 use lib.Dec.{eqb, ltb}
 use lib.ListN.{getD, set, replicate}
-use Rattle.bits.specs.Field.{fieldOf, bit}
+use Rattle.bits.specs.Field.{fieldOf}
 use Rattle.bits.specs.Mask.{cleared}
 use Rattle.bits.specs.Extension.{low32Of}
-use Rattle.tlb.specs.declared.entries.PageEntry.{PageEntry}
 use Rattle.tlb.specs.declared.entries.Entry.{Entry}
 use Rattle.tlb.specs.declared.entries.LookupAnswer.{LookupAnswer}
 use Rattle.tlb.specs.declared.entries.LookupAnswer.the-variants.{Found, Fault}
@@ -17,7 +16,7 @@ use Rattle.tlb.specs.declared.micro.ItlbProbed.{ItlbProbed}
 use Rattle.tlb.specs.Entries.{faultNumber}
 use Rattle.tlb.specs.Table.{freshEntry}
 use Rattle.tlb.specs.Micro.{lowest}
-use Rattle.tlb.specs.Moves.{pageOf}
+use Rattle.tlb.specs.Words.{entryOfWords, hiWord, loWord}
 use Rattle.room.specs.declared.table.Micro.{Micro}
 use Rattle.room.specs.declared.table.Looked.{Looked}
 use Rattle.room.specs.declared.table.Probed.{Probed}
@@ -26,18 +25,8 @@ use Rattle.room.specs.declared.table.Probed.{Probed}
 abbrev pub wordIn : List ℕ → ℕ → ℕ → ℕ
 wordIn ws i k = getD ws (4 * i + k) 0
 
--- EntryHi: R 63..62, VPN2 39..13 in place, ASID 7..0; G is EntryLo0's
 unfoldable pub entryIn : List ℕ → ℕ → Entry
-entryIn ws i =
-    record {
-      «page_mask» = low32Of (getD ws (4 * i) 0);
-      vpn2 = fieldOf (wordIn ws i 1) 39 13 * 2 ^ 13;
-      asid = fieldOf (wordIn ws i 1) 7 0;
-      global = eqb (fieldOf (wordIn ws i 2) 0 0) 1;
-      region = fieldOf (wordIn ws i 1) 63 62;
-      lo0 = pageOf (wordIn ws i 2);
-      lo1 = pageOf (wordIn ws i 3);
-    }
+entryIn ws i = entryOfWords (getD ws (4 * i) 0) (wordIn ws i 1) (wordIn ws i 2) (wordIn ws i 3)
 
 -- R and VPN2 of an address or of EntryHi, in place
 abbrev pub tagOf : ℕ → ℕ
@@ -77,12 +66,6 @@ withNext m n = record { itlb = m .itlb; «itlb_lru» = n; shutdown = m .shutdown
 
 abbrev pub shutDownIn : Micro → Micro
 shutDownIn m = record { itlb = m .itlb; «itlb_lru» = m .«itlb_lru»; shutdown = true }
-
-abbrev pub hiWord : Entry → ℕ
-hiWord e = e .region % 4 * 2 ^ 62 + fieldOf (e .vpn2) 39 13 * 2 ^ 13 + e .asid
-
-abbrev pub loWord : PageEntry → Bool → ℕ
-loWord p g = p .pfn % 2 ^ 20 * 2 ^ 6 + p .c % 2 ^ 3 * 2 ^ 3 + bit (p .dirty) * 2 ^ 2 + bit (p .valid) * 2 + bit g
 
 -- an entry put into its four words
 abbrev pub putEntry : List ℕ → ℕ → Entry → List ℕ

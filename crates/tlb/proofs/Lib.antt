@@ -10,6 +10,7 @@ pub mod Agreement
 pub mod Unique
 pub mod WordLaws
 pub mod Sound
+pub mod Words
 pub mod ReadBack
 pub mod RoundTrip
 pub mod Moving

@@ -49,27 +49,27 @@ module _ (v asid : ℕ) where
 
       go : (b : Bool) → matchesOf e v asid ≡ b → Dec (n < i) → Dec (i < n)
           → among (matching es v asid (suc i)) n ≡ (leb (suc i) n && (ltb n (suc i + length es) && hit es (n - suc i)))
-          → among (cond b (i ∷ matching es v asid (suc i)) (matching es v asid (suc i))) n ≡ (leb i n && (ltb n (i + suc (length es)) && hit (e ∷ es) (n - i)))
-      go true m (yes h) k rest = rw (ne-eqb n i (λ q. omega arith), lt-leb i n h) (rest ∙ rw (lt-leb (suc i) n (omega arith)))
-      go false m (yes h) k rest = rw (lt-leb i n h) (rest ∙ rw (lt-leb (suc i) n (omega arith)))
-      go true m (no h) (yes k) rest = rw (ne-eqb n i (λ q. omega arith)) (rest ∙ later k)
-      go false m (no h) (yes k) rest = rest ∙ later k
+          → among (matching (e ∷ es) v asid i) n ≡ (leb i n && (ltb n (i + suc (length es)) && hit (e ∷ es) (n - i)))
+      go true m (yes h) k rest = rw (m, ne-eqb n i (λ q. omega arith), lt-leb i n h) (rest ∙ rw (lt-leb (suc i) n (omega arith)))
+      go false m (yes h) k rest = rw (m, lt-leb i n h) (rest ∙ rw (lt-leb (suc i) n (omega arith)))
+      go true m (no h) (yes k) rest = rw (m, ne-eqb n i (λ q. omega arith)) (rest ∙ later k)
+      go false m (no h) (yes k) rest = rw m (rest ∙ later k)
       go true m (no h) (no k) rest =
           let z : n ≡ i = omega arith in
-          rw (eq-eqb n i z) (sym (first m z))
+          rw (m, eq-eqb n i z) (sym (first m z))
       go false m (no h) (no k) rest =
           let z : n ≡ i = omega arith in
-          rest ∙ rw (lt-leb (suc i) n (omega arith)) (sym (first m z))
+          rw m (rest ∙ rw (lt-leb (suc i) n (omega arith)) (sym (first m z)))
 
   rises : (es : List Entry) (i b : ℕ) → b ≤ i → risingFrom b (matching es v asid i) ≡ true
   unfolding matching risingFrom
   rises [] i b h = refl
-  rises (e ∷ es) i b h = go (matchesOf e v asid) (λ c l. rises es (suc i) c l)
+  rises (e ∷ es) i b h = go (matchesOf e v asid) refl (λ c l. rises es (suc i) c l)
     where
-      go : (m : Bool) → ((c : ℕ) → c ≤ suc i → risingFrom c (matching es v asid (suc i)) ≡ true)
-          → risingFrom b (cond m (i ∷ matching es v asid (suc i)) (matching es v asid (suc i))) ≡ true
-      go true rest = rw (le-leb b i h) (rest (suc i) (omega arith))
-      go false rest = rest b (omega arith)
+      go : (m : Bool) → matchesOf e v asid ≡ m → ((c : ℕ) → c ≤ suc i → risingFrom c (matching es v asid (suc i)) ≡ true)
+          → risingFrom b (matching (e ∷ es) v asid i) ≡ true
+      go true m rest = rw (m, le-leb b i h) (rest (suc i) (omega arith))
+      go false m rest = rw m (rest b (omega arith))
 
 or-false : (b : Bool) → (b || false) ≡ true → b ≡ true
 or-false true e = refl

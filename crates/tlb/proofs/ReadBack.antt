@@ -17,52 +17,18 @@ use Rattle.tlb.specs.Entries.{vpn2Of}
 use Rattle.tlb.specs.Table.{entryAt}
 use Rattle.tlb.specs.Moves.{globalOf, entryOf, loOf, hiOf, readEntryOf}
 use Rattle.tlb.specs.Sound.{Sound, SoundTable}
-use Rattle.tlb.proofs.WordLaws.{
-  mask-kept,
-  left,
-  left-at,
-  left-lt,
-  hi,
-  hi-joined,
-  hi-kept,
-  hi-region,
-  hi-vpn2,
-  hi-asid,
-  lo,
-  lo-joined,
-  lo-kept,
-  lo-g,
-  lo-page,
-}
-use Rattle.tlb.proofs.Sound.{entry-sound}
+use Rattle.tlb.specs.Words.{hiWord, loWord}
+use Rattle.tlb.proofs.WordLaws.{mask-kept, lo-joined, lo-kept, lo-g, lo-page}
+use Rattle.tlb.proofs.Sound.{sound-vpn2, entry-sound}
+use Rattle.tlb.proofs.Words.{word-is, word-kept, word-region, word-vpn2, word-asid}
 
 both : (g : Bool) → (g && g) ≡ g
 both true = refl
 both false = refl
 
--- VPN2 is a number below 2^27 at bit 13
-module _ (e : Entry) (s : Sound e) where
-  abbrev pub w : ℕ
-  w = left (e .«page_mask») (e .vpn2)
-
-  abbrev pub w-lt : w < 2 ^ 27
-  w-lt = left-lt (e .«page_mask») (e .vpn2)
-
-  pub w-at : w * 2 ^ 13 ≡ e .vpn2
-  w-at = sym (left-at (e .«page_mask») (e .vpn2)) ∙ ap (λ (m : ℕ). vpn2Of m (e .vpn2)) (s .mask) ∙ s .vpn2
-
-  abbrev pub word : ℕ
-  word = hi (e .region) w (e .asid) (s .region) w-lt (s .asid)
-
-  hi-word : hiOf e ≡ word
-  hi-word =
-      ap (λ (v : ℕ). bitOr (bitOr (e .region % 4 * 2 ^ 62) v) (e .asid)) (sym w-at)
-      ∙ hi-joined (e .region) w (e .asid) (s .region) w-lt (s .asid)
-
-  vpn2-back : vpn2Of (e .«page_mask») word ≡ e .vpn2
-  vpn2-back =
-      let f : fieldOf (e .vpn2) 39 13 ≡ w = ap (λ (v : ℕ). fieldOf v 39 13) (sym w-at) ∙ omega (arith, w-lt) in
-      ap (λ (x : ℕ). cleared (e .«page_mask») (x * 2 ^ 13)) (hi-vpn2 (e .region) w (e .asid) (s .region) w-lt (s .asid) ∙ sym f) ∙ s .vpn2
+-- the mask clears nothing more of VPN2
+vpn2-back : (e : Entry) → Sound e → vpn2Of (e .«page_mask») (hiWord e) ≡ e .vpn2
+vpn2-back e s = ap (cleared (e .«page_mask»)) (word-vpn2 e s ∙ sym (sound-vpn2 e s)) ∙ s .vpn2
 
 -- the four registers that a sound entry is read into
 module _ (e : Entry) (s : Sound e) (d : Cop0) (file : length (d .regs) ≡ 32) where
@@ -95,22 +61,22 @@ module _ (e : Entry) (s : Sound e) (d : Cop0) (file : length (d .regs) ≡ 32) w
       ∙ read-past PageMask (λ f. refl) EntryHi _ d₁ refl refl
       ∙ read-back PageMask (λ f. refl) (omega arith) d file _ (subst (λ (m : ℕ). under (archMask PageMask) m ≡ m) (s .mask) (mask-kept (e .«page_mask»)))
 
-  pub hi-read : readOf d₄ EntryHi ≡ word e s
+  pub hi-read : readOf d₄ EntryHi ≡ hiWord e
   unfolding readAt unused among
   hi-read =
       read-past EntryHi (λ f. refl) EntryLo1 _ d₃ refl refl
       ∙ read-past EntryHi (λ f. refl) EntryLo0 _ d₂ refl refl
-      ∙ ap (λ (y : ℕ). readOf (setHardwareOf d₁ EntryHi y) EntryHi) (hi-word e s)
-      ∙ read-back EntryHi (λ f. refl) (omega arith) d₁ file₁ _ (hi-kept (e .region) (w e s) (e .asid) (s .region) (w-lt e s) (s .asid))
+      ∙ ap (λ (y : ℕ). readOf (setHardwareOf d₁ EntryHi y) EntryHi) (word-is e s)
+      ∙ read-back EntryHi (λ f. refl) (omega arith) d₁ file₁ _ (word-kept e s)
 
-  pub lo0-read : readOf d₄ EntryLo0 ≡ lo (e .lo0) (e .global) (s .lo0)
+  pub lo0-read : readOf d₄ EntryLo0 ≡ loWord (e .lo0) (e .global)
   unfolding readAt unused among archMask
   lo0-read =
       read-past EntryLo0 (λ f. refl) EntryLo1 _ d₃ refl refl
       ∙ ap (λ (y : ℕ). readOf (setHardwareOf d₂ EntryLo0 y) EntryLo0) (lo-joined (e .lo0) (e .global) (s .lo0))
       ∙ read-back EntryLo0 (λ f. refl) (omega arith) d₂ file₂ _ (lo-kept (e .lo0) (e .global) (s .lo0))
 
-  pub lo1-read : readOf d₄ EntryLo1 ≡ lo (e .lo1) (e .global) (s .lo1)
+  pub lo1-read : readOf d₄ EntryLo1 ≡ loWord (e .lo1) (e .global)
   unfolding readAt unused among archMask
   lo1-read =
       ap (λ (y : ℕ). readOf (setHardwareOf d₃ EntryLo1 y) EntryLo1) (lo-joined (e .lo1) (e .global) (s .lo1))
@@ -126,8 +92,8 @@ module _ (e : Entry) (s : Sound e) (d : Cop0) (file : length (d .regs) ≡ 32) w
         lo1-read,
         s .mask,
         vpn2-back e s,
-        hi-region (e .region) (w e s) (e .asid) (s .region) (w-lt e s) (s .asid),
-        hi-asid (e .region) (w e s) (e .asid) (s .region) (w-lt e s) (s .asid),
+        word-region e s,
+        word-asid e s,
         lo-g (e .lo0) (e .global) (s .lo0),
         lo-g (e .lo1) (e .global) (s .lo1),
         both (e .global),

@@ -17,12 +17,13 @@ use Rattle.tlb.specs.Entries.{vpn2Of}
 use Rattle.tlb.specs.Table.{withVpn2, entryAt}
 use Rattle.tlb.specs.Moves.{canonicalOf, pageOf, globalOf, writtenMask, entryOf, writtenOf, loOf, readEntryOf}
 use Rattle.tlb.specs.Sound.{SoundHalf, Sound}
-use Rattle.tlb.proofs.WordLaws.{lo, lo-joined}
-use Rattle.tlb.proofs.Sound.{entry-sound}
-use Rattle.tlb.proofs.ReadBack.{w-at, d₄, mask-read, hi-read, lo0-read, lo1-read}
+use Rattle.tlb.specs.Words.{loWord}
+use Rattle.tlb.proofs.WordLaws.{lo-joined}
+use Rattle.tlb.proofs.Sound.{sound-vpn2, entry-sound}
+use Rattle.tlb.proofs.ReadBack.{d₄, mask-read, hi-read, lo0-read, lo1-read}
 
 -- PFN, C, D and V meet, and or joins them to the field 25..1; G is the bit below
-lo-fields : (x : ℕ) (g : Bool) (s : SoundHalf (pageOf x)) → lo (pageOf x) g s ≡ fieldOf x 25 1 * 2 + bit g
+lo-fields : (x : ℕ) (g : Bool) (s : SoundHalf (pageOf x)) → loWord (pageOf x) g ≡ fieldOf x 25 1 * 2 + bit g
 lo-fields x g s = sym (lo-joined (pageOf x) g s) ∙ joined
   where
     joined : loOf (pageOf x) g ≡ fieldOf x 25 1 * 2 + bit g
@@ -66,9 +67,8 @@ module _ (t : Tlb) (i : ℕ) (c d : Cop0) (entries : length (t .entries) ≡ 32)
       ≡ fieldOf (readOf c EntryHi) 63 62 * 2 ^ 62 + vpn2Of (writtenMask c) (readOf c EntryHi) + fieldOf (readOf c EntryHi) 7 0
   unfolding entryOf
   hi-back =
-      ap (λ (x : Cop0). readOf x EntryHi) r-is
-      ∙ hi-read e s d file
-      ∙ ap (λ (v : ℕ). e .region * 2 ^ 62 + v + e .asid) (w-at e s)
+      let two-bits : e .region % 4 ≡ e .region = omega (arith, s .region) in
+      ap (λ (x : Cop0). readOf x EntryHi) r-is ∙ hi-read e s d file ∙ rw (two-bits, sound-vpn2 e s)
 
   -- G of both halves
   abbrev pub g : Bool

@@ -15,6 +15,7 @@ use Rattle.tlb.specs.declared.entries.PageEntry.{PageEntry}
 use Rattle.tlb.specs.Entries.{vpn2Of}
 use Rattle.tlb.specs.Moves.{pairs, canonicalOf, pageOf, loOf}
 use Rattle.tlb.specs.Sound.{SoundHalf}
+use Rattle.tlb.specs.Words.{loWord}
 use Rattle.tlb.proofs.Sizes.{pairs-small}
 
 -- PageMask has the bits of a canonical mask
@@ -35,20 +36,19 @@ module _ (x v : ℕ) where
 
 -- R, VPN2 and ASID at their places: or adds them, EntryHi has these bits, and each is read off again
 module _ (r w a : ℕ) (hr : r < 2 ^ 2) (hw : w < 2 ^ 27) (ha : a < 2 ^ 8) where
-  abbrev pub hi : ℕ
-  hi = r * 2 ^ 62 + w * 2 ^ 13 + a
+  abbrev hi : ℕ
+  hi = r % 4 * 2 ^ 62 + w * 2 ^ 13 + a
 
   pub hi-joined : bitOr (bitOr (r % 4 * 2 ^ 62) (w * 2 ^ 13)) a ≡ hi
   hi-joined =
-      let e : r % 4 ≡ r = omega arith in
-      rw (e, or-places r w 49 13 (omega arith), or-shifted (r * 2 ^ 49 + w) 13 a (omega arith)) (omega arith)
+      rw (or-places (r % 4) w 49 13 (omega arith), or-shifted (r % 4 * 2 ^ 49 + w) 13 a (omega arith)) (omega arith)
 
   pub hi-kept : under (archMask EntryHi) hi ≡ hi
   unfolding archMask
   hi-kept =
-      rw (add-assoc (r * 2 ^ 62) (w * 2 ^ 13) a)
-      (under-block 62 r (w * 2 ^ 13 + a) (2 ^ 2 - 1) ((2 ^ 27 - 1) * 2 ^ 13 + (2 ^ 8 - 1)) (omega arith) (omega arith)
-      (under-ones 2 r hr)
+      rw (add-assoc (r % 4 * 2 ^ 62) (w * 2 ^ 13) a)
+      (under-block 62 (r % 4) (w * 2 ^ 13 + a) (2 ^ 2 - 1) ((2 ^ 27 - 1) * 2 ^ 13 + (2 ^ 8 - 1)) (omega arith) (omega arith)
+      (under-ones 2 (r % 4) (omega arith))
       (under-block 13 w a (2 ^ 27 - 1) (2 ^ 8 - 1) (omega arith) (omega arith) (under-ones 27 w hw) (under-ones 8 a ha)))
 
   pub hi-region : fieldOf hi 63 62 ≡ r
@@ -62,28 +62,26 @@ module _ (r w a : ℕ) (hr : r < 2 ^ 2) (hw : w < 2 ^ 27) (ha : a < 2 ^ 8) where
 
 -- PFN, C, D, V and G the same, in EntryLo0 and EntryLo1
 module _ (p : PageEntry) (g : Bool) (s : SoundHalf p) where
-  abbrev pub lo : ℕ
-  lo = (((p .pfn * 2 ^ 3 + p .c) * 2 ^ 1 + bit (p .dirty)) * 2 ^ 1 + bit (p .valid)) * 2 ^ 1 + bit g
-
-  pub lo-joined : loOf p g ≡ lo
+  pub lo-joined : loOf p g ≡ loWord p g
   lo-joined =
       rw (or-places (p .pfn) (p .c) 3 3 (s .c))
       (rw (or-places (p .pfn * 2 ^ 3 + p .c) (bit (p .dirty)) 1 2 (a-bit (p .dirty)))
       (rw (or-places ((p .pfn * 2 ^ 3 + p .c) * 2 ^ 1 + bit (p .dirty)) (bit (p .valid)) 1 1 (a-bit (p .valid)))
-      (or-shifted (((p .pfn * 2 ^ 3 + p .c) * 2 ^ 1 + bit (p .dirty)) * 2 ^ 1 + bit (p .valid)) 1 (bit g) (a-bit g))))
+      (or-shifted (((p .pfn * 2 ^ 3 + p .c) * 2 ^ 1 + bit (p .dirty)) * 2 ^ 1 + bit (p .valid)) 1 (bit g) (a-bit g)
+      ∙ omega (arith, s .pfn, s .c))))
 
-  pub lo-kept : under (2 ^ 30 - 1) lo ≡ lo
-  lo-kept = under-ones 30 lo (omega (arith, s .pfn, s .c, a-bit g, a-bit (p .dirty), a-bit (p .valid)))
+  pub lo-kept : under (2 ^ 30 - 1) (loWord p g) ≡ loWord p g
+  lo-kept = under-ones 30 (loWord p g) (omega (arith, s .pfn, s .c, a-bit g, a-bit (p .dirty), a-bit (p .valid)))
 
-  pub lo-g : eqb (fieldOf lo 0 0) 1 ≡ g
+  pub lo-g : eqb (fieldOf (loWord p g) 0 0) 1 ≡ g
   lo-g =
-      let e : fieldOf lo 0 0 ≡ bit g = omega (arith, a-bit g) in
+      let e : fieldOf (loWord p g) 0 0 ≡ bit g = omega (arith, a-bit g) in
       rw e (bit-undone g)
 
-  pub lo-page : pageOf lo ≡ p
+  pub lo-page : pageOf (loWord p g) ≡ p
   lo-page =
-      let f : fieldOf lo 25 6 ≡ p .pfn = omega (arith, a-bit g, a-bit (p .dirty), a-bit (p .valid), s .pfn, s .c) in
-      let c : fieldOf lo 5 3 ≡ p .c = omega (arith, a-bit g, a-bit (p .dirty), a-bit (p .valid), s .pfn, s .c) in
-      let d : fieldOf lo 2 2 ≡ bit (p .dirty) = omega (arith, a-bit g, a-bit (p .dirty), a-bit (p .valid)) in
-      let v : fieldOf lo 1 1 ≡ bit (p .valid) = omega (arith, a-bit g, a-bit (p .dirty), a-bit (p .valid)) in
+      let f : fieldOf (loWord p g) 25 6 ≡ p .pfn = omega (arith, a-bit g, a-bit (p .dirty), a-bit (p .valid), s .pfn, s .c) in
+      let c : fieldOf (loWord p g) 5 3 ≡ p .c = omega (arith, a-bit g, a-bit (p .dirty), a-bit (p .valid), s .pfn, s .c) in
+      let d : fieldOf (loWord p g) 2 2 ≡ bit (p .dirty) = omega (arith, a-bit g, a-bit (p .dirty), a-bit (p .valid)) in
+      let v : fieldOf (loWord p g) 1 1 ≡ bit (p .valid) = omega (arith, a-bit g, a-bit (p .dirty), a-bit (p .valid)) in
       rw (f, c, d, v, bit-undone (p .dirty), bit-undone (p .valid))

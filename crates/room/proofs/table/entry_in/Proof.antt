@@ -1,4 +1,5 @@
 -- Field by field.
+use Rattle.tlb.specs.Words.{entryOfWords}
 use Rattle.room.specs.Table.{entryIn}
 use borrow.Author.Needs.{needs}
 use Rattle.room.proofs.table.entry_in.Statement.{statement}
@@ -71,7 +72,7 @@ cast-t27 : tie.Need-cast-t27
 cast-t27 c = search needs
 
 returns : tie.Need-returns
-unfolding entryIn
+unfolding entryIn entryOfWords
 returns c = rw (c .before .before .before .before .before .before .before .before .page-in .ensures, c .before .before .before .before .before .before .page-in2 .ensures, c .before .before .before .before .low32 .ensures, c .before .before .before .field .ensures, c .before .before .field2 .ensures, c .before .field3 .ensures, c .field4 .ensures)
 
 pub entry-in-spec : {M : Type 1} → statement M
