@@ -2,6 +2,7 @@
 -- the answer and, where the record was lent, what it is left at.
 use mathlib.Core.Path.{_≡_, ap₂}
 use mathlib.Core.Bool.{Bool}
+use mathlib.Core.List.{List}
 use Prim.Native.Nat.{ℕ}
 use base.Logic.{ent, sep, fst∗, snd∗}
 use contract.Lifetimes.{Lfts}
@@ -16,6 +17,7 @@ use Rattle.cop0.specs.declared.advance.Advanced.{Advanced}
 use Rattle.cop0.specs.declared.access.FromRs.{FromRs}
 use Rattle.cop0.proofs.Answers.{from-rs-one, advance-one}
 use Rattle.cop0.proofs.registers.Cop0.new.Reads as new
+use Rattle.cop0.proofs.registers.Cop0.numbers.Reads as numbers
 use Rattle.cop0.proofs.registers.Cop0.is_unused.Reads as is-unused
 use Rattle.cop0.proofs.registers.Cop0.read.Reads as read
 use Rattle.cop0.proofs.registers.Cop0.write.Reads as write
@@ -44,6 +46,9 @@ made a c = record { answer = a; cop0 = c }
 
 pub new-unique : (a : Unit {0}) (r r′ : Cop0) → new.Post tt a r a → new.Post tt a r′ a → r ≡ r′
 new-unique a r r′ = same
+
+pub numbers-unique : (a : Unit {0}) (r r′ : List ℕ) → numbers.Post tt a r a → numbers.Post tt a r′ a → r ≡ r′
+numbers-unique a r r′ = same
 
 pub is-unused-unique : (a : ℕ × Unit {0}) (r r′ : Bool) → is-unused.Post tt a r a → is-unused.Post tt a r′ a → r ≡ r′
 is-unused-unique a r r′ = same

@@ -5,7 +5,7 @@ use Prim.Native.Nat.{ℕ, _+_, _-_, _^_}
 use lib.Dec.{eqb}
 use lib.ListN.{getD}
 
--- the numbers that definitions name
+-- the numbers of the registers that have a name (table 1-2)
 abbrev pub Index : ℕ
 Index = 0
 
@@ -54,11 +54,61 @@ PRId = 15
 abbrev pub Config : ℕ
 Config = 16
 
+abbrev pub LLAddr : ℕ
+LLAddr = 17
+
+abbrev pub WatchLo : ℕ
+WatchLo = 18
+
+abbrev pub WatchHi : ℕ
+WatchHi = 19
+
 abbrev pub XContext : ℕ
 XContext = 20
 
+abbrev pub PErr : ℕ
+PErr = 26
+
+abbrev pub CacheErr : ℕ
+CacheErr = 27
+
+abbrev pub TagLo : ℕ
+TagLo = 28
+
+abbrev pub TagHi : ℕ
+TagHi = 29
+
 abbrev pub ErrorEPC : ℕ
 ErrorEPC = 30
+
+abbrev pub named : List ℕ
+named =
+    Index
+    ∷ Random
+    ∷ EntryLo0
+    ∷ EntryLo1
+    ∷ Context
+    ∷ PageMask
+    ∷ Wired
+    ∷ BadVAddr
+    ∷ Count
+    ∷ EntryHi
+    ∷ Compare
+    ∷ Status
+    ∷ Cause
+    ∷ EPC
+    ∷ PRId
+    ∷ Config
+    ∷ LLAddr
+    ∷ WatchLo
+    ∷ WatchHi
+    ∷ XContext
+    ∷ PErr
+    ∷ CacheErr
+    ∷ TagLo
+    ∷ TagHi
+    ∷ ErrorEPC
+    ∷ []
 
 -- n stands in the list
 unfoldable pub among : List ℕ → ℕ → Bool

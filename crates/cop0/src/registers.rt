@@ -1,7 +1,7 @@
 // The register record, its numbers and masks, and reads and writes under them.
 ghost use mathlib.Core.Path.{_≡_};
 ghost use Prim.Native.Nat.{_%_};
-ghost use Rattle.cop0.specs.Registers.{wide, unused, writeMask, archMask};
+ghost use Rattle.cop0.specs.Registers.{named, wide, unused, writeMask, archMask};
 ghost use Rattle.cop0.specs.Record.{fresh, reg, withReg};
 ghost use Rattle.cop0.specs.File.{readOf, writeOf, setHardwareOf};
 
@@ -213,6 +213,39 @@ impl Cop0 {
             ec: 7,
             write_latch: 0,
         }
+    }
+
+    // The numbers of the registers that have a name, in the order of table 1-2: what a host's own names are held to.
+    pub fn numbers() -> [u8; 25]
+        ensures { λ r. ⌜ r ≡ named ⌝ }
+    {
+        [
+            Self::INDEX,
+            Self::RANDOM,
+            Self::ENTRY_LO0,
+            Self::ENTRY_LO1,
+            Self::CONTEXT,
+            Self::PAGE_MASK,
+            Self::WIRED,
+            Self::BAD_VADDR,
+            Self::COUNT,
+            Self::ENTRY_HI,
+            Self::COMPARE,
+            Self::STATUS,
+            Self::CAUSE,
+            Self::EPC,
+            Self::PRID,
+            Self::CONFIG,
+            Self::LL_ADDR,
+            Self::WATCH_LO,
+            Self::WATCH_HI,
+            Self::XCONTEXT,
+            Self::PERR,
+            Self::CACHE_ERR,
+            Self::TAG_LO,
+            Self::TAG_HI,
+            Self::ERROR_EPC,
+        ]
     }
 
     // Is this one of the `UNUSED` numbers?

@@ -116,7 +116,7 @@ unfolding freshFrom
 fresh-table-sound =
     record {
       long = refl;
-      each = λ i h. subst Sound (sym (freshly.at 32 0 i h ∙ ap freshEntry (omega arith))) (fresh-sound i h);
+      each = λ i h. subst Sound (sym (freshly.nth-fresh 32 0 i h ∙ ap freshEntry (omega arith))) (fresh-sound i h);
       micro = record { two = refl; slot = empty-micro; next = omega arith };
     }
 

@@ -5,7 +5,7 @@ use native.Mathlib.Numerals.{add-one}
 use native.Mathlib.Omega.{arith}
 use borrow.Author.Needs.{needs}
 use Rattle.tlb.specs.Table.{freshEntry, entryAt}
-use Rattle.tlb.proofs.Freshly.{at}
+use Rattle.tlb.proofs.Freshly.{nth-fresh}
 use Rattle.room.specs.Table.{freshWords}
 use Rattle.room.proofs.table.room_tlb_new.Statement.{statement}
 use Rattle.room.proofs.table.room_tlb_new.Tie as tie
@@ -42,7 +42,7 @@ loop-again c =
     let i = b .loop .i in
     let below = c .before .before .before .loop-test .taken in
     let small : i % 32 ≡ i = omega arith in
-    let fresh-entry : entryAt (b .before .new .result) (i % 32) ≡ freshEntry i = rw (b .before .new .ensures, small) (at 32 0 i below ∙ ap freshEntry (omega arith)) in
+    let fresh-entry : entryAt (b .before .new .result) (i % 32) ≡ freshEntry i = rw (b .before .new .ensures, small) (nth-fresh 32 0 i below ∙ ap freshEntry (omega arith)) in
     (omega arith, rw (add-one, c .put-entry .ensures, b .loop .inv .1, c .before .entry .ensures, fresh-entry))
 
 micro-of-requires : tie.Need-micro-of-requires Inv-loop μ-loop
