@@ -21,14 +21,16 @@ impl Cop0 {
 
     // `MTC0 rd, rt`: the low 32 bits. A register of 64 bits takes them sign-extended, which is how software writes a KSEG0
     // address to one.
-    pub fn mtc0(self, n: u8, value: u64) -> Cop0
+    pub fn mtc0(mut self, n: u8, value: u64) -> Cop0
         ensures { λ r. ⌜ r ≡ mtc0Of self n value ⌝ }
     {
         let low = bits::low32(value);
         if is_wide(n) {
-            return self.dmtc0(n, bits::sign_extend(low));
+            self = self.dmtc0(n, bits::sign_extend(low));
+            return self;
         }
-        self.dmtc0(n, bits::zero_extend(low))
+        self = self.dmtc0(n, bits::zero_extend(low));
+        self
     }
 
     // `DMTC0 rd, rt`: all 64 bits.

@@ -44,14 +44,14 @@ impl Cop0 {
     // Has Count come to Compare since the timer was last asked? Count moves on between two questions, so this asks whether
     // Compare lies within the counts passed, and not whether Count stands there now: a match stepped over would be lost. To
     // stand on Compare already is no edge: at reset both are 0, and no interrupt is due.
-    pub fn timer_edge(self) -> Polled
+    pub fn timer_edge(mut self) -> Polled
         ensures { λ r. ⌜ r ≡ polledOf self ⌝ }
     {
         let traveled = std::num::wrapping_sub_u32(self.count(), self.last_count);
         let to_compare = self.to_compare();
-        let cop0 = self.ask();
+        self = self.ask();
         let edge = 1 <= to_compare && to_compare <= traveled;
-        Polled { edge, cop0 }
+        Polled { edge, cop0: self }
     }
 
     // How many counts may pass until the timer's next edge, as a bound for a batch of steps. Where Compare stands on the

@@ -6,14 +6,13 @@ use crate::registers::Cop0;
 impl Cop0 {
     // Sets or clears a pending bit of Cause: the hardware's way to IP2 (RCP) and IP7 (timer). Software writes IP1 and IP0
     // by MTC0.
-    pub fn set_ip(self, bit: u8, on: bool) -> Cop0
+    pub fn set_ip(mut self, bit: u8, on: bool) -> Cop0
         ensures { λ r. ⌜ r ≡ setIpOf self bit on ⌝ }
     {
         let at = 8 + (bit % 8) as u32;
-        self.with_reg(
-            Self::CAUSE,
-            bits::with_field(self.reg(Self::CAUSE), at, at, on as u64),
-        )
+        let cause = bits::with_field(self.reg(Self::CAUSE), at, at, on as u64);
+        self = self.with_reg(Self::CAUSE, cause);
+        self
     }
 
     // Is an interrupt taken now? Interrupts are on (IE), no handler runs (EXL and ERL clear, or a handler would be entered

@@ -283,33 +283,34 @@ impl Cop0 {
     }
 
     // A write under the register's mask, with what Count, Compare and Wired do besides.
-    pub fn write(self, n: u8, value: u64) -> Cop0
+    pub fn write(mut self, n: u8, value: u64) -> Cop0
         ensures { λ r. ⌜ r ≡ writeOf self n value ⌝ }
     {
         let k = n % 32;
-        let mut c = self.with_reg(n, bits::merge(Self::write_mask(n), value, self.reg(n)));
+        self = self.with_reg(n, bits::merge(Self::write_mask(n), value, self.reg(n)));
         // Count is a value at an epoch and no stored number, so that it cannot drift from the clock.
         if k == Self::COUNT {
-            c.count_epoch_value = bits::low32(value);
-            c.count_epoch_tick = c.now;
-            return c.ask();
+            self.count_epoch_value = bits::low32(value);
+            self.count_epoch_tick = self.now;
+            return self.ask();
         }
         // The timer's bit is latched until Compare is written (6.4.18). Both writes move an end of the interval that the
         // timer asks about, so the next one starts here: a write makes no edge.
         if k == Self::COMPARE {
-            return c.set_ip(7, false).ask();
+            return self.set_ip(7, false).ask();
         }
         if k == Self::WIRED {
-            return c.with_reg(Self::RANDOM, 31);
+            return self.with_reg(Self::RANDOM, 31);
         }
-        c
+        self
     }
 
     // A write past the write mask, for what the hardware owns. It reaches no bit that the register does not have.
-    pub fn set_hardware(self, n: u8, value: u64) -> Cop0
+    pub fn set_hardware(mut self, n: u8, value: u64) -> Cop0
         ensures { λ r. ⌜ r ≡ setHardwareOf self n value ⌝ }
     {
-        self.with_reg(n, value & Self::arch_mask(n))
+        self = self.with_reg(n, value & Self::arch_mask(n));
+        self
     }
 
     // Register `n` as stored.
