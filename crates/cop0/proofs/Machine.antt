@@ -105,26 +105,26 @@ module _ (c : Cop0) (n : ℕ) (fits : suc n < 2 ^ 32) where
   missed : becomes c ≡ false → (countOf c + 1) % 2 ^ 32 ≡ compareOf c → ⊥
   missed e h = eqb-false _ _ e (next-count c ∙ h)
 
+  -- a tick that reaches Compare is the one edge of the n + 1
+  reached : becomes c ≡ true → (edgeIn (toGo (jumped c 1 true)) n ≡ false) × (edgeIn (toGo c) (suc n) ≡ true)
+  reached e = (
+    rw (to-go true) (hit-after (countOf c) (compareOf c) n (omega arith) (hit e)),
+    hit-before (countOf c) (compareOf c) n (omega arith) (omega arith) (hit e),
+  )
+
+  -- one that does not leaves the edge to the n after it
+  passed : becomes c ≡ false → edgeIn (toGo (jumped c 1 false)) n ≡ edgeIn (toGo c) (suc n)
+  passed e = rw (to-go false) (miss (countOf c) (compareOf c) n (omega arith) (omega arith) fits (missed e))
+
   one-more : (b : Bool) → becomes c ≡ b
       → raisedIn (edgeIn (toGo (jumped c 1 b)) n) (raisedIn b (c .regs)) ≡ raisedIn (edgeIn (toGo c) (suc n)) (c .regs)
   unfolding raisedIn
-  one-more true e =
-      rw (
-        to-go true,
-        hit-after (countOf c) (compareOf c) n (omega arith) (hit e),
-        hit-before (countOf c) (compareOf c) n (omega arith) (omega arith) (hit e),
-      )
-  one-more false e = rw (to-go false, miss (countOf c) (compareOf c) n (omega arith) (omega arith) fits (missed e))
+  one-more true e = rw (reached e .0, reached e .1)
+  one-more false e = rw (passed e)
 
   one-edge : (b : Bool) → becomes c ≡ b → bit b + bit (edgeIn (toGo (jumped c 1 b)) n) ≡ bit (edgeIn (toGo c) (suc n))
-  one-edge true e =
-      rw (
-        to-go true,
-        hit-after (countOf c) (compareOf c) n (omega arith) (hit e),
-        hit-before (countOf c) (compareOf c) n (omega arith) (omega arith) (hit e),
-      )
-  one-edge false e =
-      rw (to-go false, miss (countOf c) (compareOf c) n (omega arith) (omega arith) fits (missed e)) (omega arith)
+  one-edge true e = rw (reached e .0, reached e .1)
+  one-edge false e = rw (passed e) (omega arith)
 
 -- n ticks, n below 2^32, are one jump, and reach Compare as often as it lies within n counts
 ticks-are : (n : ℕ) (c : Cop0) → Kept c → n < 2 ^ 32 → ticks n c ≡ jumped c n (edgeIn (toGo c) n)
