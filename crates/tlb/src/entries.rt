@@ -1,6 +1,7 @@
 // One entry: a tag and the pair of pages that it maps.
 ghost use mathlib.Core.Path.{_≡_};
-ghost use Rattle.tlb.specs.Entries.{uncachedOf, matchesOf, pairSizeOf, pageSizeOf, halfOf, translated, halfAnswer, entryAnswer, toldLookup};
+ghost use Rattle.tlb.specs.Entries.{uncachedOf, matchesOf, halfOf, translated, halfAnswer, entryAnswer, toldLookup};
+use crate::table::Tlb;
 
 // One half of an entry: the even or the odd page.
 #[repr(C)]
@@ -85,20 +86,6 @@ impl PageEntry {
     }
 }
 
-// The size of the pair of pages that a mask makes.
-pub(crate) fn pair_bytes(mask: u32) -> u64
-    ensures { λ r. ⌜ r ≡ pairSizeOf mask ⌝ }
-{
-    (mask as u64 | 0x1FFF) + 1
-}
-
-// The size of one page of it.
-pub(crate) fn page_bytes(mask: u32) -> u64
-    ensures { λ r. ⌜ r ≡ pageSizeOf mask ⌝ }
-{
-    pair_bytes(mask) / 2
-}
-
 impl Entry {
     // Does the entry match? The valid bits have no part in it, so an invalid entry is found and gives Invalid, and two of
     // them clash (5.4.9). Nor have address bits 61..40: EntryHi does not hold them, and they are ones in a 32-bit kernel
@@ -122,7 +109,7 @@ impl Entry {
     fn half(self, vaddr: u64) -> PageEntry
         ensures { λ r. ⌜ r ≡ halfOf self vaddr ⌝ }
     {
-        if vaddr & page_bytes(self.page_mask) == 0 {
+        if vaddr & Tlb::page_size(self.page_mask) == 0 {
             return self.lo0;
         }
         self.lo1
@@ -133,6 +120,6 @@ impl Entry {
         ensures { λ r. ⌜ toldLookup r ≡ toldLookup (entryAnswer self vaddr store) ⌝ }
     {
         let half = self.half(vaddr);
-        half.answer(page_bytes(self.page_mask) - 1, vaddr, store)
+        half.answer(Tlb::page_size(self.page_mask) - 1, vaddr, store)
     }
 }

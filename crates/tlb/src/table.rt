@@ -8,8 +8,6 @@ use crate::entries::Entry;
 use crate::entries::LookupAnswer;
 use crate::entries::PageEntry;
 use crate::entries::TlbFault;
-use crate::entries::page_bytes;
-use crate::entries::pair_bytes;
 
 pub struct Tlb {
     pub entries: [Entry; 32],
@@ -70,14 +68,14 @@ impl Tlb {
     pub fn page_size(mask: u32) -> u64
         ensures { λ r. ⌜ r ≡ pageSizeOf mask ⌝ }
     {
-        page_bytes(mask)
+        Self::pair_size(mask) / 2
     }
 
     // The size of the pair that an entry covers, twice the page's.
     pub fn pair_size(mask: u32) -> u64
         ensures { λ r. ⌜ r ≡ pairSizeOf mask ⌝ }
     {
-        pair_bytes(mask)
+        (mask as u64 | 0x1FFF) + 1
     }
 
     // Where an address leads. Two entries that match shut the TLB down for good, and a TLB that is shut down finds nothing.

@@ -5,16 +5,16 @@ use Rattle.tlb.specs.Entries.{halfOf}
 use Rattle.tlb.proofs.entries.Entry.half.Statement.{statement}
 use Rattle.tlb.proofs.entries.Entry.half.Tie as tie
 
-page-bytes-requires : tie.Need-page-bytes-requires
-page-bytes-requires c κs = search needs
+page-size-requires : tie.Need-page-size-requires
+page-size-requires c κs = search needs
 
 returns : tie.Need-returns
 unfolding halfOf
-returns c = rw (← c .before .before .page-bytes .ensures, eq-eqb _ _ (c .before .if1 .taken))
+returns c = rw (← c .before .before .page-size .ensures, eq-eqb _ _ (c .before .if1 .taken))
 
 returns-2 : tie.Need-returns-2
 unfolding halfOf
-returns-2 c = rw (← c .before .before .page-bytes .ensures, ne-eqb _ _ (c .before .if1 .left))
+returns-2 c = rw (← c .before .before .page-size .ensures, ne-eqb _ _ (c .before .if1 .left))
 
 pub half-spec : {M : Type 1} → statement M
-half-spec = tie.close (tie.spec page-bytes-requires returns returns-2)
+half-spec = tie.close (tie.spec page-size-requires returns returns-2)
