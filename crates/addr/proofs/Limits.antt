@@ -3,16 +3,17 @@
 use mathlib.Core.Path.{_≡_, refl}
 use mathlib.Core.Bool.{Bool, true, false, _&&_, _||_, cond}
 use mathlib.Core.List.{List, [], _∷_}
-use Prim.Native.Nat.{ℕ, _+_, _-_, _*_, _^_}
+use Prim.Native.Nat.{ℕ, _+_, _-_, _*_, _%_, _^_}
 use lib.Dec.{eqb}
+use Rattle.bits.specs.Told.{equal}
 use Rattle.addr.specs.declared.access.Mode.{Mode}
 use Rattle.addr.specs.declared.access.Mode.the-variants.{Kernel, Supervisor, User}
 use Rattle.addr.specs.declared.access.Access.{Access}
 use Rattle.addr.specs.declared.segments.Cached.the-variants.{Yes, No}
 use Rattle.addr.specs.declared.segments.Segment.{Segment}
-use Rattle.addr.specs.declared.segments.Segment.the-variants.{Direct, Mapped, Invalid}
+use Rattle.addr.specs.declared.segments.Segment.the-variants.{Mapped, Invalid}
 use Rattle.addr.specs.Answers.{toldSegment}
-use Rattle.addr.specs.Segments.{direct, how, SegmentRow, row, inside, segmentIn, rowsOf, erlRow, tableOf, segmentOf}
+use Rattle.addr.specs.Segments.{direct, how, SegmentRow, row, inside, segmentIn, rowsOf, erlRow, tableOf}
 
 abbrev each : {A : Type 0} → (A → Bool) → List A → Bool
 each f [] = true
@@ -21,12 +22,6 @@ each f (x ∷ xs) = f x && each f xs
 abbrev some : {A : Type 0} → (A → Bool) → List A → Bool
 some f [] = false
 some f (x ∷ xs) = f x || some f xs
-
-abbrev equal : List ℕ → List ℕ → Bool
-equal [] [] = true
-equal [] (y ∷ ys) = false
-equal (x ∷ xs) [] = false
-equal (x ∷ xs) (y ∷ ys) = eqb x y && equal xs ys
 
 abbrev alike : Segment → Segment → Bool
 alike g h = equal (toldSegment g .values) (toldSegment h .values)
@@ -60,6 +55,13 @@ pub every-row : each (λ (rows : List SegmentRow). each (limits rows) rows) tabl
 unfolding inside
 every-row = refl
 
+-- and each row begins and ends at a multiple of 512 MB: none is closed an address early, or late
+abbrev whole : SegmentRow → Bool
+whole r = eqb (r .first % 2 ^ 29) 0 && eqb ((r .last + 1) % 2 ^ 29) 0
+
+pub every-end : each (each whole) ((erlRow ∷ []) ∷ tables) ≡ true
+every-end = refl
+
 -- the eight windows of xkphys, by their C field: the rest of xkphys's row are address errors
 abbrev window : ℕ → SegmentRow
 window c = row (2 ^ 63 + c * 2 ^ 59) (2 ^ 63 + c * 2 ^ 59 + (2 ^ 32 - 1)) (direct 31 (cond (eqb c 2) No Yes))
@@ -86,21 +88,3 @@ goes-on rows = ends rows erlRow && alike (segmentIn rows (erlRow .last + 1)) Map
 pub erl-wide : each (λ (m : Mode). goes-on (tableOf (access m true true))) modes ≡ true
 unfolding inside
 erl-wide = refl
-
--- P4: the top of sseg
-pub p4 : (segmentOf (access Supervisor false false) 0xFFFF_FFFF_DFFF_FFFF ≡ Mapped)
-    × (segmentOf (access Supervisor false false) 0xFFFF_FFFF_E000_0000 ≡ Invalid)
-unfolding segmentOf inside
-p4 = (refl, refl)
-
--- P5: the top of xkseg
-pub p5 : (segmentOf (access Kernel true false) 0xC000_00FF_7FFF_FFFF ≡ Mapped)
-    × (segmentOf (access Kernel true false) 0xC000_00FF_8000_0000 ≡ Invalid)
-unfolding segmentOf inside
-p5 = (refl, refl)
-
--- P6: an uncached window of xkphys, and the address past its top
-pub p6 : (segmentOf (access Kernel true false) 0x9000_0000_1234_5678 ≡ Direct 0x1234_5678 No)
-    × (segmentOf (access Kernel true false) 0x9000_0001_0000_0000 ≡ Invalid)
-unfolding segmentOf inside
-p6 = (refl, refl)

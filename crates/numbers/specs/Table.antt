@@ -1,9 +1,8 @@
 -- Rows of a table: what a definition computes, and what the scope (document 01) expects.
-use mathlib.Core.Bool.{Bool, true, false, _&&_}
+use mathlib.Core.Bool.{Bool, true, _&&_}
 use mathlib.Core.List.{List, [], _∷_}
 use Prim.Native.Nat.{ℕ}
-use lib.Dec.{eqb}
-use Rattle.bits.specs.Told.{Told}
+use Rattle.bits.specs.Told.{Told, equal}
 
 pub record NumberRow : Type 0 where
   pub computed : List ℕ
@@ -19,12 +18,6 @@ number n = n ∷ []
 -- an answer: its number, and then its values
 abbrev pub answer : Told → List ℕ
 answer t = t .number ∷ t .values
-
-abbrev pub equal : List ℕ → List ℕ → Bool
-equal [] [] = true
-equal [] (y ∷ ys) = false
-equal (x ∷ xs) [] = false
-equal (x ∷ xs) (y ∷ ys) = eqb x y && equal xs ys
 
 -- every row holds
 abbrev pub all : List NumberRow → Bool
