@@ -1,4 +1,3 @@
--- What the proofs of numbers, limits and lines cite.
-pub mod Digits
+-- What the proofs of limits and lines cite.
 pub mod Limits
 pub mod Scans

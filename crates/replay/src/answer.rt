@@ -115,10 +115,12 @@ fn of_letter(out: &mut [u8], used: usize, letter: u8, value: u64) -> usize {
     }
 }
 
-fn hexadecimal(out: &mut [u8], used: usize, value: u64, width: usize) -> usize {
+fn hexadecimal(out: &mut [u8], used: usize, value: u64, width: usize) -> usize
+    requires { ⌜ width ≤ 16 ⌝ }
+{
     let mut text = [0u8; 16];
-    let n = io::hex(value, width, &mut text);
-    put(out, used, &text[..n])
+    digits::put(&mut text, 0, width, value);
+    put(out, used, &text[..width])
 }
 
 fn decimal(out: &mut [u8], used: usize, value: u64) -> usize {

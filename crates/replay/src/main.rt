@@ -14,7 +14,6 @@ mod icache_step;
 mod input;
 mod kind;
 mod line;
-mod number;
 mod operand;
 mod operations;
 mod output;

@@ -3,8 +3,7 @@ ghost use Prim.Native.Nat.{_≤_};
 ghost use lib.ListN.{length};
 use crate::line;
 use crate::line::Stop;
-use crate::number;
-use crate::number::Number;
+use digits::Number;
 
 // The most operands that an operation takes.
 pub const MOST: usize = 6;
@@ -29,7 +28,7 @@ impl Operands {
         let mut from = line::find(line, at, Stop::Word);
         while from < line.len() {
             let to = line::find(line, from + 1, Stop::Blank);
-            all = all.with(number::parse(&line[from..to]));
+            all = all.with(digits::parse(&line[from..to]));
             from = line::find(line, to, Stop::Word);
         }
         all
