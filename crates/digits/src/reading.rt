@@ -9,6 +9,7 @@ pub enum DigitAnswer {
     None,
 }
 
+// A word's number, if it writes one.
 pub enum Number {
     Value(u64),
     Bad,

@@ -3,8 +3,8 @@ ghost use mathlib.Core.Path.{_≡_};
 ghost use Prim.Native.Nat.{_<_};
 ghost use Rattle.digits.specs.Writing.{lowercaseOf, placeOf, hasRoom, putOf};
 
-// Writes the `width` lowest digits of a number at a place, the highest first. Where they find no room nothing is written; says
-// whether they did.
+// Writes the `width` lowest digits of a number at a place, the highest first, and says whether they found room. Where they did
+// not, nothing is written.
 pub fn put(out: &mut [u8], at: usize, width: usize, value: u64) -> bool
     ensures { λ r. ⌜ (r ≡ hasRoom (now (out .entry)) at width)
         × (now (out .exit) ≡ putOf (now (out .entry)) at width value) ⌝ }

@@ -1,4 +1,4 @@
--- `answer::hexadecimal` puts as many digits as it has written.
+-- `answer::hexadecimal` puts a part of its text: what comes back from `digits::put` is as long as before.
 use mathlib.Core.Path.{sym}
 use native.Mathlib.Omega.{arith}
 use lib.Seq.{length-take-le}
@@ -16,7 +16,9 @@ array-share-prefix-text : tie.Need-array-share-prefix-text
 array-share-prefix-text c = search needs
 
 slice-aggregate-put-2 : tie.Need-slice-aggregate-put-2
-slice-aggregate-put-2 c = sym (length-take-le (c .before .before .before .before .before .before .args .width) (c .before .before .before .put .last .0) (omega arith))
+slice-aggregate-put-2 c =
+    let p = c .before .before .before in
+    sym (length-take-le (p .before .before .before .args .width) (p .put .last .0) (omega arith))
 
 put-requires-2 : tie.Need-put-requires-2
 put-requires-2 c κs = search needs
