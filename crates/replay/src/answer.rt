@@ -3,6 +3,7 @@ ghost use Prim.Native.Nat.{_≤_};
 ghost use lib.ListN.{length};
 use crate::line::Stop;
 use crate::line::find;
+use crate::output::at_most;
 use crate::output::put;
 use crate::request::Fault;
 use crate::told::Told;
@@ -25,71 +26,73 @@ pub fn write_fault(out: &mut [u8], used: usize, line: u64, fault: Fault) -> usiz
     }
 }
 
-// A row of the answers' table, with its values. A row is a word and a letter for each value: `n` is a number of 16 digits, `f` a
-// flag, `d` a decimal number, and `j` 16 digits that are joined to those before.
-pub fn write_row(out: &mut [u8], used: usize, row: usize, values: &[u64]) -> usize {
+// A row of the answers' table, with its values. Rows stand in any order: each is its own letter, a word, and a letter for each
+// value: `n` is a number of 16 digits, `f` a flag, `d` a decimal number, and `j` 16 digits that are joined to those before.
+pub fn write_row(out: &mut [u8], used: usize, row: u8, values: &[u64]) -> usize {
     filled(
         out,
         used,
-        b"ok
-= n
-= f
-edge f
-refused d
-at nf
-refill
-invalid
-modified
-address
-mapped
-direct nf
-access nff
-vector nn
-entry nnnnfnnnffnnff
-hit
-fill
-none
-evict nnj
-evict nnjjj
-line nffnj
-line nffnjjj
-regs nnnnnnnnnnnnnnnnnnnnnnnnnnnnnnnn
-clock nnnnnn
-itlb nnnf
+        b"a ok
+b = n
+c = f
+d edge f
+e refused d
+f at nf
+g refill
+h invalid
+i modified
+j address
+k mapped
+l direct nf
+m access nff
+n vector nn
+o entry nnnnfnnnffnnff
+p hit
+q fill
+r none
+s evict nnj
+t evict nnjjj
+u line nffnj
+v line nffnjjj
+w regs nnnnnnnnnnnnnnnnnnnnnnnnnnnnnnnn
+x clock nnnnnn
+y itlb nnnf
+z unplayed
 ",
         row,
         values,
     )
 }
 
-fn filled(out: &mut [u8], used: usize, table: &[u8], row: usize, values: &[u64]) -> usize {
+fn filled(out: &mut [u8], used: usize, table: &[u8], row: u8, values: &[u64]) -> usize {
     let at = start_of(table, row);
     let end = find(table, at, Stop::LineEnd);
     let used = written(out, used, &table[at..end], values);
     put(out, used, b"\n")
 }
 
-// Where a row starts.
-fn start_of(table: &[u8], row: usize) -> usize
+// Where a row starts, or the end of a table that has no such row.
+fn start_of(table: &[u8], row: u8) -> usize
     ensures { λ r. ⌜ r ≤ length (now (table .entry)) ⌝ }
 {
     let mut at = 0;
-    let mut i = 0;
-    while i < row {
-        let end = find(table, at, Stop::LineEnd);
-        if table.len() <= end {
-            return end;
+    while at < table.len() {
+        if table[at] == row {
+            return at;
         }
-        at = end + 1;
-        i += 1;
+        at = find(table, at, Stop::LineEnd) + 1;
     }
-    at
+    table.len()
 }
+
+// Where a row's word starts.
+const WORD: usize = 2;
 
 // A row's word, and the values of its letters.
 fn written(out: &mut [u8], used: usize, row: &[u8], values: &[u64]) -> usize {
-    let end = find(row, 0, Stop::Blank);
-    let mut held = put(out, used, &row[0..end]);
+    let from = at_most(WORD, row.len());
+    let end = find(row, from, Stop::Blank);
+    let mut held = put(out, used, &row[from..end]);
     let mut at = end;
     let mut i = 0;
     while i < values.len() {

@@ -15,6 +15,15 @@ const BYTES: usize = 8192;
 
 const TAGS: usize = 512;
 
+// Is it a part of the caches?
+pub fn plays(part: u8) -> bool {
+    match part {
+        operations::D_TAGS | operations::D_LINES => true,
+        operations::I_TAGS | operations::I_LINES => true,
+        _ => false,
+    }
+}
+
 // One operation of a cache.
 pub fn play(call: Call, lines: &mut [u8], tags: &mut [u32]) -> Told {
     if lines.len() < BYTES {
@@ -23,10 +32,15 @@ pub fn play(call: Call, lines: &mut [u8], tags: &mut [u32]) -> Told {
     if tags.len() < TAGS {
         return Told::refused(1);
     }
-    if call.operation <= operations::D_LINE {
-        return dcache_step::play(call, &mut lines[0..BYTES], &mut tags[0..TAGS]);
+    let part = call.part;
+    match part {
+        operations::D_TAGS => dcache_step::on_tags(call, &mut tags[0..TAGS]),
+        operations::D_LINES => {
+            dcache_step::on_lines(call, &mut lines[0..BYTES], &mut tags[0..TAGS])
+        }
+        operations::I_TAGS => icache_step::on_tags(call, &mut tags[TAGS..]),
+        _ => icache_step::on_lines(call, &mut lines[BYTES..], &mut tags[TAGS..]),
     }
-    icache_step::play(call, &mut lines[BYTES..], &mut tags[TAGS..])
 }
 
 // Fresh caches.

@@ -4,7 +4,6 @@ use crate::cache_answers::of_done;
 use crate::cache_answers::of_value;
 use crate::operand::flag;
 use crate::operand::word;
-use crate::operations;
 use crate::request::Call;
 use crate::told;
 use crate::told::Told;
@@ -15,44 +14,33 @@ use cache::PlanAnswer;
 use cache::WritebackAnswer;
 use cache::dcache;
 
-pub(crate) fn play(call: Call, lines: &mut [u8], tags: &mut [u32]) -> Told {
-    if call.operation <= operations::D_STORE_TAG {
-        return on_tags(call, tags);
-    }
-    on_lines(call, lines, tags)
-}
-
-// What needs the tag words alone. The last is `d_store_tag`.
-fn on_tags(call: Call, tags: &mut [u32]) -> Told {
-    let op = call.operation;
+// What needs the tag words alone.
+pub(crate) fn on_tags(call: Call, tags: &mut [u32]) -> Told {
     let v = call.values;
     let addr = word(v[0]);
-    match op {
-        operations::D_HITS => of_asked(dcache::hits(tags, addr)),
-        operations::D_LOAD_TAG => of_value(dcache::load_tag(tags, addr)),
-        _ => of_done(dcache::store_tag(tags, addr, word(v[1]))),
+    let arm = call.arm;
+    match arm {
+        b'a' => of_asked(dcache::hits(tags, addr)),
+        b'b' => of_value(dcache::load_tag(tags, addr)),
+        b'c' => of_done(dcache::store_tag(tags, addr, word(v[1]))),
+        _ => Told::plain(told::UNPLAYED),
     }
 }
 
-// The last is `d_line`.
-fn on_lines(call: Call, lines: &mut [u8], tags: &mut [u32]) -> Told {
-    let op = call.operation;
+// What needs the lines too.
+pub(crate) fn on_lines(call: Call, lines: &mut [u8], tags: &mut [u32]) -> Told {
     let v = call.values;
     let addr = word(v[0]);
-    match op {
-        operations::D_MISS_PLAN => planned(dcache::miss_plan(lines, tags, addr)),
-        operations::D_INSTALL => {
-            of_done(dcache::install(lines, tags, addr, words::data_line(v[1], v[2])))
-        }
-        operations::D_READ => of_value(dcache::read(lines, addr, v[1] as usize)),
-        operations::D_WRITE => of_done(dcache::write(lines, tags, addr, v[1] as usize, v[2])),
-        operations::D_FLUSH_INDEX => {
-            written_back(dcache::flush_index(lines, tags, addr, flag(v[1]), flag(v[2])))
-        }
-        operations::D_CREATE_DIRTY_EXCLUSIVE => {
-            written_back(dcache::create_dirty_exclusive(lines, tags, addr))
-        }
-        _ => line(lines, tags, v[0]),
+    let arm = call.arm;
+    match arm {
+        b'a' => planned(dcache::miss_plan(lines, tags, addr)),
+        b'b' => { of_done(dcache::install(lines, tags, addr, words::data_line(v[1], v[2]))) }
+        b'c' => of_value(dcache::read(lines, addr, v[1] as usize)),
+        b'd' => of_done(dcache::write(lines, tags, addr, v[1] as usize, v[2])),
+        b'e' => { written_back(dcache::flush_index(lines, tags, addr, flag(v[1]), flag(v[2]))) }
+        b'f' => { written_back(dcache::create_dirty_exclusive(lines, tags, addr)) }
+        b'g' => line(lines, tags, v[0]),
+        _ => Told::plain(told::UNPLAYED),
     }
 }
 

@@ -3,7 +3,6 @@ use crate::cache_answers::of_asked;
 use crate::cache_answers::of_done;
 use crate::cache_answers::of_value;
 use crate::operand::word;
-use crate::operations;
 use crate::request::Call;
 use crate::told;
 use crate::told::Told;
@@ -12,40 +11,35 @@ use cache::InstructionWriteback;
 use cache::WritebackAnswer;
 use cache::icache;
 
-pub(crate) fn play(call: Call, lines: &mut [u8], tags: &mut [u32]) -> Told {
-    if call.operation <= operations::I_HIT_INVALIDATE {
-        return on_tags(call, tags);
-    }
-    on_lines(call, lines, tags)
-}
-
-// What needs the tag words alone. The last is `i_hit_invalidate`.
-fn on_tags(call: Call, tags: &mut [u32]) -> Told {
-    let op = call.operation;
+// What needs the tag words alone.
+pub(crate) fn on_tags(call: Call, tags: &mut [u32]) -> Told {
     let v = call.values;
     let addr = word(v[0]);
-    match op {
-        operations::I_HITS => of_asked(icache::hits(tags, addr)),
-        operations::I_LOAD_TAG => of_value(icache::load_tag(tags, addr)),
-        operations::I_STORE_TAG => of_done(icache::store_tag(tags, addr, word(v[1]))),
-        operations::I_INVALIDATE_INDEX => of_done(icache::invalidate_index(tags, addr)),
-        _ => of_done(icache::hit_invalidate(tags, addr)),
+    let arm = call.arm;
+    match arm {
+        b'a' => of_asked(icache::hits(tags, addr)),
+        b'b' => of_value(icache::load_tag(tags, addr)),
+        b'c' => of_done(icache::store_tag(tags, addr, word(v[1]))),
+        b'd' => of_done(icache::invalidate_index(tags, addr)),
+        b'e' => of_done(icache::hit_invalidate(tags, addr)),
+        _ => Told::plain(told::UNPLAYED),
     }
 }
 
-// The last is `i_line`.
-fn on_lines(call: Call, lines: &mut [u8], tags: &mut [u32]) -> Told {
-    let op = call.operation;
+// What needs the lines too.
+pub(crate) fn on_lines(call: Call, lines: &mut [u8], tags: &mut [u32]) -> Told {
     let v = call.values;
     let addr = word(v[0]);
-    match op {
-        operations::I_INSTALL => {
+    let arm = call.arm;
+    match arm {
+        b'a' => {
             let line = words::instruction_line(v[1], v[2], v[3], v[4]);
             of_done(icache::install(lines, tags, addr, line))
         }
-        operations::I_READ_WORD => of_value(icache::read_word(lines, addr)),
-        operations::I_FLUSH_HIT => written_back(icache::flush_hit(lines, tags, addr)),
-        _ => line(lines, tags, v[0]),
+        b'b' => of_value(icache::read_word(lines, addr)),
+        b'c' => written_back(icache::flush_hit(lines, tags, addr)),
+        b'd' => line(lines, tags, v[0]),
+        _ => Told::plain(told::UNPLAYED),
     }
 }
 

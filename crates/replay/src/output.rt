@@ -31,7 +31,7 @@ pub fn flush(out: &[u8], used: usize) {
     }
 }
 
-fn at_most(n: usize, most: usize) -> usize
+pub(crate) fn at_most(n: usize, most: usize) -> usize
     ensures { λ r. ⌜ r ≤ most ⌝ }
 {
     if most < n {

@@ -23,37 +23,37 @@ pub struct Played {
 }
 
 pub fn play(call: Call, c: Cop0) -> Played {
-    let op = call.operation;
-    if op <= operations::TICK_RANDOM_BY {
-        return answered(Told::plain(told::OK), written(call, c));
+    let part = call.part;
+    match part {
+        operations::WRITTEN => written(call, c),
+        operations::ASKED => answered(asked(call, c), c),
+        operations::COMPUTED => answered(computed(call), c),
+        _ => answered(Told::plain(told::UNPLAYED), c),
     }
-    if op == operations::TIMER_EDGE {
-        return polled(c);
-    }
-    if op == operations::NMI {
-        return taken(call, c);
-    }
-    if op <= operations::ACCESS {
-        return answered(asked(call, c), c);
-    }
-    answered(computed(call), c)
 }
 
 fn answered(told: Told, c: Cop0) -> Played {
     Played { told, cop0: c }
 }
 
-// The registers after a write. The last is `tick_random_by`.
-fn written(call: Call, c: Cop0) -> Cop0 {
-    let op = call.operation;
+// What may write the registers.
+fn written(call: Call, c: Cop0) -> Played {
     let v = call.values;
-    match op {
-        operations::WRITE => c.write(byte(v[0]), v[1]),
-        operations::SET_HARDWARE => c.set_hardware(byte(v[0]), v[1]),
-        operations::SET_NOW => c.set_now(v[0]),
-        operations::TICK_RANDOM => c.tick_random(),
-        _ => c.tick_random_by(v[0]),
+    let arm = call.arm;
+    match arm {
+        b'a' => done(c.write(byte(v[0]), v[1])),
+        b'b' => done(c.set_hardware(byte(v[0]), v[1])),
+        b'c' => done(c.set_now(v[0])),
+        b'd' => done(c.tick_random()),
+        b'e' => done(c.tick_random_by(v[0])),
+        b'f' => polled(c),
+        b'g' => taken(v[0], c),
+        _ => answered(Told::plain(told::UNPLAYED), c),
     }
+}
+
+fn done(c: Cop0) -> Played {
+    answered(Told::plain(told::OK), c)
 }
 
 // The timer's question moves the mark of when it was last asked.
@@ -64,27 +64,25 @@ fn polled(c: Cop0) -> Played {
     answered(Told::flag(edge), after)
 }
 
-fn taken(call: Call, c: Cop0) -> Played {
-    let v = call.values;
-    let made = exception::nmi(c, v[0]);
+fn taken(pc: u64, c: Cop0) -> Played {
+    let made = exception::nmi(c, pc);
     let dispatch = made.dispatch;
     let after = made.cop0;
     answered(of_dispatch(dispatch), after)
 }
 
-// What the registers say. The last is `access`.
+// What the registers say.
 fn asked(call: Call, c: Cop0) -> Told {
-    let op = call.operation;
     let v = call.values;
-    match op {
-        operations::READ => Told::number(c.read(byte(v[0]))),
-        operations::TIMER_MATCHES => Told::flag(c.timer_matches()),
-        operations::COUNT => Told::number(c.count() as u64),
-        operations::COUNT_NOW => Told::number(c.count_now()),
-        operations::COUNT_TICKS_UNTIL_TIMER_MATCH => {
-            Told::number(c.count_ticks_until_timer_match())
-        }
-        _ => access(c.regs[Cop0::STATUS as usize]),
+    let arm = call.arm;
+    match arm {
+        b'a' => Told::number(c.read(byte(v[0]))),
+        b'b' => Told::flag(c.timer_matches()),
+        b'c' => Told::number(c.count() as u64),
+        b'd' => Told::number(c.count_now()),
+        b'e' => { Told::number(c.count_ticks_until_timer_match()) }
+        b'f' => access(c.regs[Cop0::STATUS as usize]),
+        _ => Told::plain(told::UNPLAYED),
     }
 }
 
@@ -114,19 +112,20 @@ fn mode_number(mode: Mode) -> u64 {
     }
 }
 
-// What needs no register. The last is `vector`.
+// What needs no register.
 fn computed(call: Call) -> Told {
-    let op = call.operation;
     let v = call.values;
-    match op {
-        operations::FROM_RS => form(byte(v[0])),
-        operations::IS_WIDE => Told::flag(cop0::is_wide(byte(v[0]))),
-        operations::IS_UNUSED => Told::flag(Cop0::is_unused(byte(v[0]))),
-        operations::SEGMENT => {
+    let arm = call.arm;
+    match arm {
+        b'a' => form(byte(v[0])),
+        b'b' => Told::flag(cop0::is_wide(byte(v[0]))),
+        b'c' => Told::flag(Cop0::is_unused(byte(v[0]))),
+        b'd' => {
             let access = access_of(v[1], v[2], v[3]);
             of_segment(access.segment(v[0]))
         }
-        _ => Told::number(exception::vector(v[0], vector_of(v[1]))),
+        b'e' => Told::number(exception::vector(v[0], vector_of(v[1]))),
+        _ => Told::plain(told::UNPLAYED),
     }
 }
 

@@ -22,9 +22,10 @@ pub enum Asked {
     Wrong(Fault),
 }
 
-// An operation by its number, with its operands.
+// An operation by the part that plays it and the arm there, with its operands.
 pub struct Call {
-    pub operation: usize,
+    pub part: u8,
+    pub arm: u8,
     pub values: [u64; MOST],
 }
 
@@ -62,7 +63,8 @@ fn nothing() -> Request {
     Request {
         asked: Asked::Nothing,
         call: Call {
-            operation: 0,
+            part: 0,
+            arm: 0,
             values: [0; MOST],
         },
     }
@@ -72,10 +74,11 @@ fn nothing() -> Request {
 fn named(name: &[u8], args: Operands) -> Request {
     let values = args.values;
     let row = row_of(name, values[0]);
-    let operation = row.number;
+    let part = row.part;
+    let arm = row.arm;
     Request {
         asked: checked(row, args),
-        call: Call { operation, values },
+        call: Call { part, arm, values },
     }
 }
 

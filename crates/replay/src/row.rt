@@ -1,38 +1,41 @@
-// A row of the operations' table: a name, and then a letter for each operand.
+// A row of the operations' table: two letters for who plays it, a name, and then a letter for each operand.
 use crate::line::Stop;
 use crate::line::find;
 use crate::operand::MOST;
 use check::same;
 
-// A row's number in its table, from 0, and how many operands it has, with the greatest number that each may be.
+// Who plays a row's operation, and how many operands it has, with the greatest number that each may be.
 pub(crate) struct Row {
     pub known: bool,
-    pub number: usize,
+    pub part: u8,
+    pub arm: u8,
     pub count: usize,
     pub limits: [u64; MOST],
 }
+
+// Where a row's name starts.
+const NAME: usize = 3;
 
 impl Row {
     // The row of a name, on a line whose first operand is `exc`.
     pub(crate) fn of(table: &[u8], name: &[u8], exc: u64) -> Row {
         let mut at = 0;
-        let mut number = 0;
         while at < table.len() {
             let from = at;
             let end = find(table, from, Stop::LineEnd);
             if is_named(&table[from..end], name) {
-                return read(&table[from..end], name.len(), number, exc);
+                return read(&table[from..end], exc);
             }
             at = end + 1;
-            number += 1;
         }
-        Row::new(false, number)
+        Row::new(false, 0, 0)
     }
 
-    fn new(known: bool, number: usize) -> Row {
+    fn new(known: bool, part: u8, arm: u8) -> Row {
         Row {
             known,
-            number,
+            part,
+            arm,
             count: 0,
             limits: [0; MOST],
         }
@@ -49,14 +52,20 @@ impl Row {
 }
 
 fn is_named(row: &[u8], name: &[u8]) -> bool {
-    let end = find(row, 0, Stop::Blank);
-    same(&row[0..end], name)
+    if row.len() < NAME {
+        return false;
+    }
+    let end = find(row, NAME, Stop::Blank);
+    same(&row[NAME..end], name)
 }
 
-// The letters of a row whose name ends at `at`.
-fn read(row: &[u8], at: usize, number: usize, exc: u64) -> Row {
-    let mut all = Row::new(true, number);
-    let mut i = at;
+// A row's two letters, and those of its operands.
+fn read(row: &[u8], exc: u64) -> Row {
+    if row.len() < NAME {
+        return Row::new(false, 0, 0);
+    }
+    let mut all = Row::new(true, row[0], row[1]);
+    let mut i = find(row, NAME, Stop::Blank);
     while i < row.len() {
         if row[i] != b' ' {
             all = all.with(greatest(row[i], exc));

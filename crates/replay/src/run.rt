@@ -95,8 +95,8 @@ fn stopped(number: u64, fault: Fault, run: Run, out: &mut [u8]) -> Run {
 
 // One operation and its answer.
 fn play_call(call: Call, run: Run, out: &mut [u8], lines: &mut [u8], tags: &mut [u32]) -> Run {
-    let op = call.operation;
-    if op == operations::NEW {
+    let part = call.part;
+    if part == operations::NEW {
         return told(
             cache_step::renew(lines, tags),
             Session::new(),
@@ -104,7 +104,7 @@ fn play_call(call: Call, run: Run, out: &mut [u8], lines: &mut [u8], tags: &mut 
             out,
         );
     }
-    if operations::VECTOR < op {
+    if cache_step::plays(part) {
         return told(
             cache_step::play(call, lines, tags),
             run.session,
@@ -117,7 +117,7 @@ fn play_call(call: Call, run: Run, out: &mut [u8], lines: &mut [u8], tags: &mut 
 
 fn on_session(call: Call, run: Run, out: &mut [u8]) -> Run {
     let session = run.session;
-    if call.operation == operations::STATE {
+    if call.part == operations::STATE {
         return running(session, state::write(out, run.used, session));
     }
     let played = step::play(call, session);

@@ -4,7 +4,6 @@ use crate::kind::exception_of;
 use crate::operand::byte;
 use crate::operand::flag;
 use crate::operand::word;
-use crate::operations;
 use crate::request::Call;
 use crate::step::Played;
 use crate::told;
@@ -24,7 +23,13 @@ use tlb::TlbFault;
 
 pub fn play(call: Call, s: Session) -> Played {
     let v = call.values;
-    played(s.step(op_of(call)), v[0] % 32)
+    match op_of(call) {
+        Chosen::Op(op) => played(s.step(op), v[0] % 32),
+        Chosen::None => Played {
+            told: Told::plain(told::UNPLAYED),
+            session: s,
+        },
+    }
 }
 
 // An entry is told with its number `i`.
@@ -37,39 +42,42 @@ fn played(stepped: Stepped, i: u64) -> Played {
     }
 }
 
-// The operation of a line. The last is `eret`.
-fn op_of(call: Call) -> Op {
-    let op = call.operation;
+// The operation of an arm, if there is such an arm.
+enum Chosen {
+    Op(Op),
+    None,
+}
+
+fn op_of(call: Call) -> Chosen {
     let v = call.values;
-    match op {
-        operations::MFC0 => Op::Mfc0(byte(v[0])),
-        operations::DMFC0 => Op::Dmfc0(byte(v[0])),
-        operations::MTC0 => Op::Mtc0(byte(v[0]), v[1]),
-        operations::DMTC0 => Op::Dmtc0(byte(v[0]), v[1]),
-        operations::SET_IP => Op::SetIp(byte(v[0]), flag(v[1])),
-        operations::INTERRUPT_PENDING => Op::InterruptPending,
-        operations::ADVANCE => Op::Advance(v[0], v[1]),
-        operations::IS_SHUTDOWN => Op::IsShutdown,
-        operations::ENTRY => Op::Entry(v[0] as usize),
-        operations::PAGE_SIZE => Op::PageSize(word(v[0])),
-        operations::PAIR_SIZE => Op::PairSize(word(v[0])),
-        operations::LOOKUP => Op::Lookup(v[0], byte(v[1]), flag(v[2])),
-        operations::WRITE_ENTRY => Op::WriteEntry(v[0] as usize),
-        operations::READ_ENTRY => Op::ReadEntry(v[0] as usize),
-        operations::PROBE => Op::Probe,
-        operations::JTLB_HAS_MATCH => Op::JtlbHasMatch(v[0], byte(v[1])),
-        operations::ITLB_PROBE => Op::ItlbProbe(v[0], byte(v[1])),
-        operations::ITLB_FILL => Op::ItlbFill(v[0], byte(v[1])),
-        operations::TRANSLATE_VIA => {
-            let access = access_of(v[3], v[4], v[5]);
-            Op::TranslateVia(v[0], byte(v[1]), flag(v[2]), access)
+    let arm = call.arm;
+    let op = match arm {
+        b'a' => Op::Mfc0(byte(v[0])),
+        b'b' => Op::Dmfc0(byte(v[0])),
+        b'c' => Op::Mtc0(byte(v[0]), v[1]),
+        b'd' => Op::Dmtc0(byte(v[0]), v[1]),
+        b'e' => Op::SetIp(byte(v[0]), flag(v[1])),
+        b'f' => Op::InterruptPending,
+        b'g' => Op::Advance(v[0], v[1]),
+        b'h' => Op::IsShutdown,
+        b'i' => Op::Entry(v[0] as usize),
+        b'j' => Op::PageSize(word(v[0])),
+        b'k' => Op::PairSize(word(v[0])),
+        b'l' => Op::Lookup(v[0], byte(v[1]), flag(v[2])),
+        b'm' => Op::WriteEntry(v[0] as usize),
+        b'n' => Op::ReadEntry(v[0] as usize),
+        b'o' => Op::Probe,
+        b'p' => Op::JtlbHasMatch(v[0], byte(v[1])),
+        b'q' => Op::ItlbProbe(v[0], byte(v[1])),
+        b'r' => Op::ItlbFill(v[0], byte(v[1])),
+        b's' => Op::TranslateVia(v[0], byte(v[1]), flag(v[2]), access_of(v[3], v[4], v[5])),
+        b't' => Op::Dispatch(exception_of(v[0], v[1], v[2]), v[3], flag(v[4]), v[5]),
+        b'u' => Op::Eret,
+        _ => {
+            return Chosen::None;
         }
-        operations::DISPATCH => {
-            let exc = exception_of(v[0], v[1], v[2]);
-            Op::Dispatch(exc, v[3], flag(v[4]), v[5])
-        }
-        _ => Op::Eret,
-    }
+    };
+    Chosen::Op(op)
 }
 
 fn told_of(answer: Answer, i: u64) -> Told {

@@ -14,8 +14,7 @@ pub struct Played {
 
 // An operation of a session, or one beside.
 pub fn play(call: Call, s: Session) -> Played {
-    let op = call.operation;
-    if op <= operations::ERET {
+    if call.part == operations::SESSION {
         return session_step::play(call, s);
     }
     let made = register_step::play(call, s.cop0);

@@ -4,79 +4,82 @@
 pub const MOST: usize = 14;
 
 pub struct Told {
-    pub row: usize,
+    pub row: u8,
     pub values: [u64; MOST],
 }
 
-// The rows, by their numbers in the table of `answer`.
-pub const OK: usize = 0;
+// The rows, by their letters in the table of `answer`.
+pub const OK: u8 = b'a';
 
-pub const NUMBER: usize = 1;
+pub const NUMBER: u8 = b'b';
 
-pub const FLAG: usize = 2;
+pub const FLAG: u8 = b'c';
 
-pub const EDGE: usize = 3;
+pub const EDGE: u8 = b'd';
 
-pub const REFUSED: usize = 4;
+pub const REFUSED: u8 = b'e';
 
-pub const AT: usize = 5;
+pub const AT: u8 = b'f';
 
-pub const REFILL: usize = 6;
+pub const REFILL: u8 = b'g';
 
-pub const INVALID: usize = 7;
+pub const INVALID: u8 = b'h';
 
-pub const MODIFIED: usize = 8;
+pub const MODIFIED: u8 = b'i';
 
-pub const ADDRESS: usize = 9;
+pub const ADDRESS: u8 = b'j';
 
-pub const MAPPED: usize = 10;
+pub const MAPPED: u8 = b'k';
 
-pub const DIRECT: usize = 11;
+pub const DIRECT: u8 = b'l';
 
-pub const ACCESS: usize = 12;
+pub const ACCESS: u8 = b'm';
 
-pub const VECTOR: usize = 13;
+pub const VECTOR: u8 = b'n';
 
-pub const ENTRY: usize = 14;
+pub const ENTRY: u8 = b'o';
 
-pub const HIT: usize = 15;
+pub const HIT: u8 = b'p';
 
-pub const FILL: usize = 16;
+pub const FILL: u8 = b'q';
 
-pub const NONE: usize = 17;
+pub const NONE: u8 = b'r';
 
-pub const DATA_EVICT: usize = 18;
+pub const DATA_EVICT: u8 = b's';
 
-pub const INSTRUCTION_EVICT: usize = 19;
+pub const INSTRUCTION_EVICT: u8 = b't';
 
-pub const DATA_LINE: usize = 20;
+pub const DATA_LINE: u8 = b'u';
 
-pub const INSTRUCTION_LINE: usize = 21;
+pub const INSTRUCTION_LINE: u8 = b'v';
 
-pub const REGS: usize = 22;
+pub const REGS: u8 = b'w';
 
-pub const CLOCK: usize = 23;
+pub const CLOCK: u8 = b'x';
 
-pub const ITLB: usize = 24;
+pub const ITLB: u8 = b'y';
+
+// No answer: an operation that no arm plays.
+pub const UNPLAYED: u8 = b'z';
 
 impl Told {
     // A word alone.
-    pub fn plain(row: usize) -> Told {
+    pub fn plain(row: u8) -> Told {
         Told {
             row,
             values: [0; MOST],
         }
     }
 
-    pub fn one(row: usize, value: u64) -> Told {
+    pub fn one(row: u8, value: u64) -> Told {
         Told::plain(row).with(0, value)
     }
 
-    pub fn two(row: usize, first: u64, second: u64) -> Told {
+    pub fn two(row: u8, first: u64, second: u64) -> Told {
         Told::one(row, first).with(1, second)
     }
 
-    pub fn three(row: usize, first: u64, second: u64, third: u64) -> Told {
+    pub fn three(row: u8, first: u64, second: u64, third: u64) -> Told {
         Told::two(row, first, second).with(2, third)
     }
 

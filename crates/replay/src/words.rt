@@ -23,7 +23,7 @@ pub(crate) fn with_instructions(told: Told, n: usize, bytes: &[u8], at: usize) -
 }
 
 // A tag word: bits 19..0 are the tag, bit 20 is valid and bit 21 is dirty.
-pub(crate) fn of_tag(row: usize, tag_word: u32) -> Told {
+pub(crate) fn of_tag(row: u8, tag_word: u32) -> Told {
     let tag = (tag_word % 0x10_0000) as u64;
     let valid = (tag_word / 0x10_0000 % 2) as u64;
     let dirty = (tag_word / 0x20_0000 % 2) as u64;

@@ -1,30 +1,30 @@
 -- `answer::start_of` stays within the table.
-use Prim.Native.Nat.{_≤_, _-_}
+use Prim.Native.Nat.{_-_}
 use lib.ListN.{length}
 use borrow.Author.Needs.{needs}
 use Rattle.replay.proofs.answer.start_of.Statement.{statement}
 use Rattle.replay.proofs.answer.start_of.Tie as tie
 
 abbrev Inv-loop : tie.InvT-loop
-Inv-loop table row at₀ i₀ at i = at ≤ length table
+Inv-loop table row at₀ at = Unit {0}
 
 abbrev μ-loop : tie.MeasureT-loop
-μ-loop table row at₀ i₀ at i = row - i
+μ-loop table row at₀ at = length table - at
 
 loop-holds : tie.Need-loop-holds Inv-loop μ-loop
 loop-holds c = search needs
 
-find-requires : tie.Need-find-requires Inv-loop μ-loop
-find-requires c κs = search needs
+shared-slice-read-if1 : tie.Need-shared-slice-read-if1 Inv-loop μ-loop
+shared-slice-read-if1 c = search needs
 
 returns : tie.Need-returns Inv-loop μ-loop
 returns c = search needs
 
+find-requires : tie.Need-find-requires Inv-loop μ-loop
+find-requires c κs = search needs
+
 add-at : tie.Need-add-at Inv-loop μ-loop
 add-at c = search needs
-
-add-i : tie.Need-add-i Inv-loop μ-loop
-add-i c = search needs
 
 loop-less : tie.Need-loop-less Inv-loop μ-loop
 loop-less c = search needs
@@ -42,10 +42,10 @@ start-of-spec =
     Inv-loop
     μ-loop
     loop-holds
-    find-requires
+    shared-slice-read-if1
     returns
+    find-requires
     add-at
-    add-i
     loop-less
     loop-again
     returns-2)

@@ -7,10 +7,13 @@ use Rattle.replay.proofs.answer.written.Statement.{statement}
 use Rattle.replay.proofs.answer.written.Tie as tie
 
 abbrev Inv-loop : tie.InvT-loop
-Inv-loop out₀ used row values end held₀ at₀ i₀ out held at i = (at ≤ length row) × (length out ≡ length out₀)
+Inv-loop out₀ used row values from end held₀ at₀ i₀ out held at i = (at ≤ length row) × (length out ≡ length out₀)
 
 abbrev μ-loop : tie.MeasureT-loop
-μ-loop out₀ used row values end held₀ at₀ i₀ out held at i = length values - i
+μ-loop out₀ used row values from end held₀ at₀ i₀ out held at i = length values - i
+
+at-most-requires : tie.Need-at-most-requires Inv-loop μ-loop
+at-most-requires c κs = search needs
 
 find-requires : tie.Need-find-requires Inv-loop μ-loop
 find-requires c κs = search needs
@@ -72,6 +75,7 @@ written-spec =
     (tie.spec
     Inv-loop
     μ-loop
+    at-most-requires
     find-requires
     sub-put
     part-put-start

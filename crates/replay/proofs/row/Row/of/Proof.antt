@@ -1,4 +1,4 @@
--- `Row::of` stays within the table. A row has a byte or its end, so there are no more rows than bytes.
+-- `Row::of` stays within the table.
 use Prim.Native.Nat.{_≤_, _-_, _+_}
 use lib.ListN.{length}
 use borrow.Author.Needs.{needs}
@@ -6,10 +6,10 @@ use Rattle.replay.proofs.row.Row.of.Statement.{statement}
 use Rattle.replay.proofs.row.Row.of.Tie as tie
 
 abbrev Inv-loop : tie.InvT-loop
-Inv-loop table name exc at₀ number₀ at number = (at ≤ length table + 1) × (number ≤ at)
+Inv-loop table name exc at₀ at = at ≤ length table + 1
 
 abbrev μ-loop : tie.MeasureT-loop
-μ-loop table name exc at₀ number₀ at number = length table - at
+μ-loop table name exc at₀ at = length table - at
 
 loop-holds : tie.Need-loop-holds Inv-loop μ-loop
 loop-holds c = search needs
@@ -47,9 +47,6 @@ returns c = search needs
 add-at : tie.Need-add-at Inv-loop μ-loop
 add-at c = search needs
 
-add-number : tie.Need-add-number Inv-loop μ-loop
-add-number c = search needs
-
 loop-less : tie.Need-loop-less Inv-loop μ-loop
 loop-less c = search needs
 
@@ -80,7 +77,6 @@ of-spec =
     read-requires
     returns
     add-at
-    add-number
     loop-less
     loop-again
     new-requires
