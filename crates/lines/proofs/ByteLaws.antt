@@ -1,8 +1,8 @@
 -- Lent bytes: places within them, copies, and bytes joined to a number one by one.
 use mathlib.Core.Path.{_≡_, refl, ap, sym, _∙_}
 use mathlib.Core.Bool.{Bool, true, false, cond}
-use mathlib.Core.List.{List, append-nil}
-use Prim.Native.Nat.{ℕ, _+_, _-_, _*_, _^_, _<_, _≤_}
+use mathlib.Core.List.{List, [], _∷_, append-nil}
+use Prim.Native.Nat.{ℕ, zero, suc, _+_, _-_, _*_, _^_, _<_, _≤_}
 use native.Mathlib.Nat.{zero-add, pow-suc, pow-le-pow-right, min-le-left}
 use native.Mathlib.Numerals.{add-one}
 use native.Mathlib.Omega.{arith}
@@ -124,3 +124,23 @@ tail-copied l s at len v e h =
 -- the number of n bytes from a place on
 pub part-joined : (s : List ℕ) (at n : ℕ) → at + n ≤ length s → n ≤ 8 → bigEndian (take (at + n - at) (drop at s)) ≡ numberAt s at n
 part-joined s at n h k = ap bigEndian (part-is s at n) ∙ sym (number-is s at n h k)
+
+-- four bytes, and eight as two halves
+pub of-four : (a b c d : ℕ) → ((a * 256 + b) * 256 + c) * 256 + d ≡ bigEndian (a ∷ b ∷ c ∷ d ∷ [])
+unfolding joined
+of-four a b c d = omega arith
+
+pub of-eight : (a b c d e f g h : ℕ)
+    → bigEndian (a ∷ b ∷ c ∷ d ∷ []) * 2 ^ 32 + bigEndian (e ∷ f ∷ g ∷ h ∷ []) ≡ bigEndian (a ∷ b ∷ c ∷ d ∷ e ∷ f ∷ g ∷ h ∷ [])
+unfolding joined
+of-eight a b c d e f g h = omega arith
+
+-- a list by its elements
+unfoldable pub each : ℕ → ℕ → List ℕ → List ℕ
+each zero i s = []
+each (suc n) i s = getD s i 0 ∷ each n (suc i) s
+
+pub each-is : (n i : ℕ) (s : List ℕ) → length s ≡ i + n → each n i s ≡ drop i s
+unfolding each
+each-is zero i s h = sym (drop-of-length-le s {i = i} (omega arith))
+each-is (suc n) i s h = rw (drop-cons s i 0 (omega arith)) (ap (λ (l : List ℕ). getD s i 0 ∷ l) (each-is n (suc i) s (omega arith)))

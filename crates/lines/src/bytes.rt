@@ -1,6 +1,7 @@
 // Lent bytes: cleared, copied, and read and written as numbers, the highest byte first.
 ghost use mathlib.Core.Path.{_≡_};
-ghost use Prim.Native.Nat.{_+_, _≤_};
+ghost use Prim.Native.Nat.{_+_, _*_, _^_, _<_, _≤_};
+ghost use mathlib.Core.List.{[], _∷_};
 ghost use lib.Dec.{leb};
 ghost use lib.ListN.{length, replicate};
 ghost use Rattle.lines.specs.Bytes.{bigEndian, eight, copied, lineIf, numberAt, numberPut};
@@ -93,7 +94,38 @@ fn within(len: usize, at: usize, n: usize) -> bool
     n <= len - at
 }
 
+// Four and eight bytes, which most accesses have, are joined without a loop: they compile to one load.
 fn joined(bytes: &[u8]) -> u64
+    requires { ⌜ length (now bytes) ≤ 8 ⌝ }
+    ensures { λ r. ⌜ r ≡ bigEndian (now (bytes .entry)) ⌝ }
+{
+    if bytes.len() == 4 {
+        return four(bytes[0], bytes[1], bytes[2], bytes[3]);
+    }
+    if bytes.len() == 8 {
+        let high = four(bytes[0], bytes[1], bytes[2], bytes[3]);
+        let low = four(bytes[4], bytes[5], bytes[6], bytes[7]);
+        return both(high, low);
+    }
+    joined_each(bytes)
+}
+
+fn four(a: u8, b: u8, c: u8, d: u8) -> u64
+    ensures { λ r. ⌜ r ≡ bigEndian (a ∷ b ∷ c ∷ d ∷ []) ⌝ }
+    ensures { λ r. ⌜ r < 2 ^ 32 ⌝ }
+{
+    ((a as u64 * 256 + b as u64) * 256 + c as u64) * 256 + d as u64
+}
+
+// Two halves of a word.
+fn both(high: u64, low: u64) -> u64
+    requires { ⌜ (high < 2 ^ 32) × (low < 2 ^ 32) ⌝ }
+    ensures { λ r. ⌜ r ≡ high * 2 ^ 32 + low ⌝ }
+{
+    high * 0x1_0000_0000 + low
+}
+
+fn joined_each(bytes: &[u8]) -> u64
     requires { ⌜ length (now bytes) ≤ 8 ⌝ }
     ensures { λ r. ⌜ r ≡ bigEndian (now (bytes .entry)) ⌝ }
 {

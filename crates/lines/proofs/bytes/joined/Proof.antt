@@ -1,74 +1,95 @@
--- `bytes::joined` joins byte after byte: the number of those passed, and then of those that are left.
-use mathlib.Core.Path.{_≡_, _∙_, sym}
-use Prim.Native.Nat.{_≤_, _<_, _-_, _^_}
-use native.Mathlib.Omega.{arith}
-use lib.ListN.{length, getD, drop}
+-- By the number of bytes.
+use mathlib.Core.Path.{_≡_, ap, sym, _∙_}
+use mathlib.Core.List.{List}
+use Rattle.lines.specs.Bytes.{bigEndian}
+use Rattle.lines.proofs.ByteLaws.{of-eight, each, each-is}
 use borrow.Author.Needs.{needs}
-use Rattle.lines.specs.Bytes.{joined, bigEndian}
-use Rattle.lines.proofs.ByteLaws.{grown, fits, joined-last, joined-more}
 use Rattle.lines.proofs.bytes.joined.Statement.{statement}
 use Rattle.lines.proofs.bytes.joined.Tie as tie
 
-abbrev Inv-loop : tie.InvT-loop
-Inv-loop bytes value₀ i₀ value i = (i ≤ length bytes) × (value < 256 ^ i) × (bigEndian bytes ≡ joined value (drop i bytes))
+shared-slice-read-four : tie.Need-shared-slice-read-four
+shared-slice-read-four c = search needs
 
-abbrev μ-loop : tie.MeasureT-loop
-μ-loop bytes value₀ i₀ value i = length bytes - i
+shared-slice-read-four-2 : tie.Need-shared-slice-read-four-2
+shared-slice-read-four-2 c = search needs
 
-loop-holds : tie.Need-loop-holds Inv-loop μ-loop
-loop-holds c = search needs
+shared-slice-read-four-3 : tie.Need-shared-slice-read-four-3
+shared-slice-read-four-3 c = search needs
 
-mul-value : tie.Need-mul-value Inv-loop μ-loop
-mul-value c =
-    let l = c .before .loop in
-    omega (arith, fits (l .value) (l .i) 0 (l .inv .1) (omega arith) (search needs))
+shared-slice-read-four-4 : tie.Need-shared-slice-read-four-4
+shared-slice-read-four-4 c = search needs
 
-shared-slice-read-value : tie.Need-shared-slice-read-value Inv-loop μ-loop
-shared-slice-read-value c = search needs
+four-requires : tie.Need-four-requires
+four-requires c κs = search needs
 
-cast-value : tie.Need-cast-value Inv-loop μ-loop
-cast-value c = omega (arith, c .shared-slice-known .given (c .before .before .loop .i))
+returns : tie.Need-returns
+unfolding each
+returns c = c .four .ensures .0 ∙ ap bigEndian (each-is 4 0 _ (search needs))
 
-add-value : tie.Need-add-value Inv-loop μ-loop
-add-value c =
-    let l = c .before .before .loop in
-    let b = getD (c .before .before .before .args .bytes .now) (l .i) 0 in
-    let byte : b < 256 = omega (arith, c .shared-slice-known .given (l .i)) in
-    omega (arith, fits (l .value) (l .i) b (l .inv .1) byte (search needs))
+shared-slice-read-four-5 : tie.Need-shared-slice-read-four-5
+shared-slice-read-four-5 c = search needs
 
-add-i : tie.Need-add-i Inv-loop μ-loop
-add-i c = search needs
+shared-slice-read-four-6 : tie.Need-shared-slice-read-four-6
+shared-slice-read-four-6 c = search needs
 
-loop-less : tie.Need-loop-less Inv-loop μ-loop
-loop-less c = search needs
+shared-slice-read-four-7 : tie.Need-shared-slice-read-four-7
+shared-slice-read-four-7 c = search needs
 
-loop-again : tie.Need-loop-again Inv-loop μ-loop
-loop-again c =
-    let l = c .before .before .loop in
-    let bytes = c .before .before .before .args .bytes .now in
-    let byte : getD bytes (l .i) 0 < 256 = omega (arith, c .shared-slice-known .given (l .i)) in (
-      search needs,
-      grown (l .value) (l .i) (getD bytes (l .i) 0) (l .inv .1) byte,
-      l .inv .2 ∙ joined-more (l .value) (l .i) bytes (search needs),
-    )
+shared-slice-read-four-8 : tie.Need-shared-slice-read-four-8
+shared-slice-read-four-8 c = search needs
 
-returns : tie.Need-returns Inv-loop μ-loop
-returns c =
-    let l = c .before .loop in
-    sym (l .inv .2 ∙ joined-last (l .value) (l .i) (c .before .before .args .bytes .now) (search needs))
+four-requires-2 : tie.Need-four-requires-2
+four-requires-2 c κs = search needs
+
+shared-slice-read-four-9 : tie.Need-shared-slice-read-four-9
+shared-slice-read-four-9 c = search needs
+
+shared-slice-read-four-10 : tie.Need-shared-slice-read-four-10
+shared-slice-read-four-10 c = search needs
+
+shared-slice-read-four-11 : tie.Need-shared-slice-read-four-11
+shared-slice-read-four-11 c = search needs
+
+shared-slice-read-four-12 : tie.Need-shared-slice-read-four-12
+shared-slice-read-four-12 c = search needs
+
+four-requires-3 : tie.Need-four-requires-3
+four-requires-3 c κs = search needs
+
+both-requires : tie.Need-both-requires
+both-requires c κs = search needs
+
+returns-2 : tie.Need-returns-2
+unfolding each
+returns-2 c = c .both .ensures ∙ rw (c .before .four3 .ensures .0, c .before .before .before .before .before .before .four2 .ensures .0) (of-eight _ _ _ _ _ _ _ _ ∙ ap bigEndian (each-is 8 0 _ (search needs)))
+
+joined-each-requires : tie.Need-joined-each-requires
+joined-each-requires c κs = search needs
+
+returns-3 : tie.Need-returns-3
+returns-3 c = search needs
 
 pub joined-spec : {M : Type 1} → statement M
 joined-spec =
     tie.close
     (tie.spec
-    Inv-loop
-    μ-loop
-    loop-holds
-    mul-value
-    shared-slice-read-value
-    cast-value
-    add-value
-    add-i
-    loop-less
-    loop-again
-    returns)
+    shared-slice-read-four
+    shared-slice-read-four-2
+    shared-slice-read-four-3
+    shared-slice-read-four-4
+    four-requires
+    returns
+    shared-slice-read-four-5
+    shared-slice-read-four-6
+    shared-slice-read-four-7
+    shared-slice-read-four-8
+    four-requires-2
+    shared-slice-read-four-9
+    shared-slice-read-four-10
+    shared-slice-read-four-11
+    shared-slice-read-four-12
+    four-requires-3
+    both-requires
+    returns-2
+    joined-each-requires
+    returns-3)
