@@ -23,15 +23,18 @@ pub struct Run {
 pub struct Operation {
     pub name: &'static str,
     pub what: &'static str,
+    /// The exports that ours calls.
+    pub exports: &'static [&'static str],
     pub original: fn(u64) -> Run,
     pub ours: fn(u64) -> Run,
 }
 
 macro_rules! row {
-    ($name:expr, $what:literal, $input:expr, $step:ident) => {
+    ($name:expr, $what:literal, $input:expr, $step:ident, $exports:expr) => {
         Operation {
             name: $name,
             what: $what,
+            exports: &$exports,
             original: |calls| run(calls, $input, $step::<Original>),
             ours: |calls| run(calls, $input, $step::<Ours>),
         }
@@ -40,27 +43,111 @@ macro_rules! row {
 
 /// Every operation, in the table's order.
 pub static OPERATIONS: &[Operation] = &[
-    row!("mfc0", "read each of the 32 registers", number, mfc0),
-    row!("dmfc0-status", "read Status", |_, _| reg::STATUS.into(), dmfc0),
-    row!("mtc0", "write each of the 32 registers", numbered_value, mtc0),
-    row!("interrupt-pending", "is an interrupt taken", random, interrupt_pending),
-    row!("advance", "advance by up to 15 counts and steps", random, advance),
-    row!("lookup-first", "lookup, hit in entry 0", |_, r| within(0, r), lookup),
-    row!("lookup-last", "lookup, hit in entry 31", |_, r| within(31, r), lookup),
-    row!("lookup-miss", "lookup, no entry", |_, r| within(ENTRIES, r), lookup),
-    row!("translate-direct", "translate in KSEG0", kseg0, translate),
-    row!("translate-mapped", "translate, hit in each entry", |i, r| within(i % 32, r), translate),
-    row!("refill-eret", "dispatch a TLB refill, and eret", random, refill_eret),
-    row!("write-entry", "write each TLB entry", |i, _| i, write_entry),
-    row!("itlb-probe", "micro-TLB, hit in either slot", either_slot, itlb_probe),
-    row!("d-hits", "data cache, is the line there", |_, r| near(0x2000, r), d_hits),
-    row!("d-read-8", "data cache, read 8 bytes", |_, r| aligned(8, r), d_read),
-    row!("d-read-4", "data cache, read 4 bytes", |_, r| aligned(4, r), d_read),
-    row!("d-write-8", "data cache, write 8 bytes", |_, r| aligned(8, r), d_write),
-    row!("d-write-4", "data cache, write 4 bytes", |_, r| aligned(4, r), d_write),
-    row!("i-hits", "instruction cache, is the line there", |_, r| near(0x4000, r), i_hits),
-    row!("i-read-word", "instruction cache, read a word", |_, r| aligned(4, r), i_read_word),
-    row!(NOTHING, "the loop alone", random, nothing),
+    row!("mfc0", "read each of the 32 registers", number, mfc0, ["rimjhodek_mfc0"]),
+    row!("dmfc0-status", "read Status", |_, _| reg::STATUS.into(), dmfc0, ["rimjhodek_dmfc0"]),
+    row!("mtc0", "write each of the 32 registers", numbered_value, mtc0, ["rimjhodek_mtc0"]),
+    row!(
+        "interrupt-pending",
+        "is an interrupt taken",
+        random,
+        interrupt_pending,
+        ["rimjhodek_interrupt_pending"]
+    ),
+    row!("advance", "advance by up to 15 counts and steps", random, advance, ["rimjhodek_advance"]),
+    row!(
+        "lookup-first",
+        "lookup, hit in entry 0",
+        |_, r| within(0, r),
+        lookup,
+        ["rimjhodek_lookup"]
+    ),
+    row!(
+        "lookup-last",
+        "lookup, hit in entry 31",
+        |_, r| within(31, r),
+        lookup,
+        ["rimjhodek_lookup"]
+    ),
+    row!(
+        "lookup-miss",
+        "lookup, no entry",
+        |_, r| within(ENTRIES, r),
+        lookup,
+        ["rimjhodek_lookup"]
+    ),
+    row!("translate-direct", "translate in KSEG0", kseg0, translate, ["rimjhodek_translate_via"]),
+    row!(
+        "translate-mapped",
+        "translate, hit in each entry",
+        |i, r| within(i % 32, r),
+        translate,
+        ["rimjhodek_translate_via"]
+    ),
+    row!(
+        "refill-eret",
+        "dispatch a TLB refill, and eret",
+        random,
+        refill_eret,
+        ["rimjhodek_dispatch", "rimjhodek_eret"]
+    ),
+    row!("write-entry", "write each TLB entry", |i, _| i, write_entry, ["rimjhodek_write_entry"]),
+    row!(
+        "itlb-probe",
+        "micro-TLB, hit in either slot",
+        either_slot,
+        itlb_probe,
+        ["rimjhodek_itlb_probe"]
+    ),
+    row!(
+        "d-hits",
+        "data cache, is the line there",
+        |_, r| near(0x2000, r),
+        d_hits,
+        ["rimjhodek_dcache_hit"]
+    ),
+    row!(
+        "d-read-8",
+        "data cache, read 8 bytes",
+        |_, r| aligned(8, r),
+        d_read,
+        ["rimjhodek_dcache_read"]
+    ),
+    row!(
+        "d-read-4",
+        "data cache, read 4 bytes",
+        |_, r| aligned(4, r),
+        d_read,
+        ["rimjhodek_dcache_read"]
+    ),
+    row!(
+        "d-write-8",
+        "data cache, write 8 bytes",
+        |_, r| aligned(8, r),
+        d_write,
+        ["rimjhodek_dcache_write"]
+    ),
+    row!(
+        "d-write-4",
+        "data cache, write 4 bytes",
+        |_, r| aligned(4, r),
+        d_write,
+        ["rimjhodek_dcache_write"]
+    ),
+    row!(
+        "i-hits",
+        "instruction cache, is the line there",
+        |_, r| near(0x4000, r),
+        i_hits,
+        ["rimjhodek_icache_hit"]
+    ),
+    row!(
+        "i-read-word",
+        "instruction cache, read a word",
+        |_, r| aligned(4, r),
+        i_read_word,
+        ["rimjhodek_icache_read_word"]
+    ),
+    row!(NOTHING, "the loop alone", random, nothing, []),
 ];
 
 /// The operation that does nothing: what the loop itself costs.

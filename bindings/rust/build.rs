@@ -1,4 +1,4 @@
-//! Proves and builds `libroom.a` with `rt staticlib room`, and links it.
+//! Proves and builds `librimjhodek.a` with `rt staticlib rimjhodek`, and links it.
 
 use std::path::{Path, PathBuf};
 use std::process::Command;
@@ -7,18 +7,18 @@ use std::{env, fs};
 /// What the archive is built for.
 const TARGET: &str = "x86_64-unknown-linux-gnu";
 
-/// Names a folder that holds a `libroom.a`, in place of building one.
-const BUILT: &str = "RIMJHODEK_ROOM";
+/// Names a folder that holds a `librimjhodek.a`, in place of building one.
+const BUILT: &str = "RIMJHODEK_LIB";
 
 fn main() {
     println!("cargo::rerun-if-changed=build.rs");
     println!("cargo::rerun-if-env-changed={BUILT}");
-    println!("cargo::rustc-link-lib=static=room");
+    println!("cargo::rustc-link-lib=static=rimjhodek");
     let target = env::var("TARGET").unwrap();
     if target != TARGET {
         // The crate can still be checked for any target; it is only not linked.
         println!(
-            "cargo::warning=libroom.a is for {TARGET} and cannot be linked for {target}; \
+            "cargo::warning=librimjhodek.a is for {TARGET} and cannot be linked for {target}; \
              on Arm Linux, bindings/test builds for x86-64 and runs under an emulator"
         );
         return;
@@ -29,13 +29,13 @@ fn main() {
     }
 }
 
-/// The folder that holds `libroom.a`.
+/// The folder that holds `librimjhodek.a`.
 fn folder() -> Result<PathBuf, String> {
     let Some(given) = env::var_os(BUILT) else {
         return build();
     };
     let folder = fs::canonicalize(&given).map_err(|e| format!("{BUILT}={given:?}: {e}"))?;
-    println!("cargo::rerun-if-changed={}", folder.join("libroom.a").display());
+    println!("cargo::rerun-if-changed={}", folder.join("librimjhodek.a").display());
     Ok(folder)
 }
 
@@ -46,11 +46,11 @@ fn build() -> Result<PathBuf, String> {
     for source in ["crates", "crates.txt"] {
         println!("cargo::rerun-if-changed={}", root.join(source).display());
     }
-    let ran = Command::new("rt").args(["staticlib", "room"]).current_dir(&root).output();
+    let ran = Command::new("rt").args(["staticlib", "rimjhodek"]).current_dir(&root).output();
     let said = ran.map_err(|e| {
         format!(
             "`rt` does not run ({e}): put Rattle's command on the path, \
-             or name a folder that holds a built libroom.a in {BUILT}"
+             or name a folder that holds a built librimjhodek.a in {BUILT}"
         )
     })?;
     if !said.status.success() {
@@ -58,7 +58,7 @@ fn build() -> Result<PathBuf, String> {
             let text = String::from_utf8_lossy(&text);
             text.lines().for_each(|line| println!("cargo::error={line}"));
         }
-        return Err(format!("`rt staticlib room` failed in {}", root.display()));
+        return Err(format!("`rt staticlib rimjhodek` failed in {}", root.display()));
     }
     Ok(root.join("target/staticlib"))
 }

@@ -22,8 +22,7 @@ impl Fields {
         self.list(name).map(decimal).collect()
     }
 
-    /// A field that holds an array of entry numbers that may be missing: `[None, Some(3)]`, or as the port has them
-    /// `[32, 3]`, for `bindings/compare`.
+    /// A field that holds an array of entry numbers that may be missing: `[None, Some(3)]`.
     pub fn slots(&self, name: &str) -> Vec<Option<u64>> {
         self.list(name).map(slot).collect()
     }
@@ -47,7 +46,7 @@ fn slot(text: &str) -> Option<u64> {
         return None;
     }
     let inner = text.strip_prefix("Some(").and_then(|rest| rest.strip_suffix(')'));
-    Some(decimal(inner.unwrap_or(text))).filter(|&number| number != 32)
+    Some(decimal(inner.unwrap_or_else(|| panic!("no entry's number: {text:?}"))))
 }
 
 fn decimal(text: &str) -> u64 {
@@ -65,19 +64,16 @@ mod tests {
         count_now: u64,
         now: u8,
         slots: [Option<usize>; 2],
-        places: [u8; 2],
     }
 
     #[test]
     fn fields_by_name() {
         let slots = [None, Some(31)];
-        let places = [32, 31];
         let list = [1, u64::MAX, 3];
-        let fields = Fields::of(&Record { list, count_now: 4, now: 5, slots, places });
+        let fields = Fields::of(&Record { list, count_now: 4, now: 5, slots });
         assert_eq!(fields.numbers("list"), [1, u64::MAX, 3]);
         assert_eq!(fields.number("count_now"), 4);
         assert_eq!(fields.number("now"), 5);
         assert_eq!(fields.slots("slots"), [None, Some(31)]);
-        assert_eq!(fields.slots("places"), [None, Some(31)]);
     }
 }

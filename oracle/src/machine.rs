@@ -98,17 +98,27 @@ impl Machine {
     }
 
     fn register_lines(&self) -> [String; 2] {
+        let (regs, clock) = self.registers();
+        [answers::numbers("regs", &regs), answers::numbers("clock", &clock)]
+    }
+
+    /// The registers as stored, and the clock's numbers in the order of `state`.
+    pub fn registers(&self) -> (Vec<u64>, [u64; 6]) {
         let fields = Fields::of(&self.cop0);
         let clock =
             ["now", "count_epoch_value", "count_epoch_tick", "last_count", "ec", "write_latch"];
-        let clock = clock.map(|name| fields.number(name));
-        [answers::numbers("regs", &fields.numbers("regs")), answers::numbers("clock", &clock)]
+        (fields.numbers("regs"), clock.map(|name| fields.number(name)))
     }
 
     fn micro_line(&self) -> String {
-        let fields = Fields::of(&self.tlb);
-        let (slots, next) = (fields.slots("itlb"), fields.number("itlb_lru"));
+        let (slots, next) = self.micro();
         answers::micro(&slots, next, self.tlb.is_shutdown())
+    }
+
+    /// The micro-TLB's slots, and which is filled next.
+    pub fn micro(&self) -> (Vec<Option<u64>>, u64) {
+        let fields = Fields::of(&self.tlb);
+        (fields.slots("itlb"), fields.number("itlb_lru"))
     }
 }
 

@@ -1,11 +1,14 @@
 //! Segments, modes and translation.
 
 use crate::Refusal;
-use crate::ffi::{self, By};
+use crate::ffi;
+use crate::refusal;
 use crate::tlb::{Tlb, TlbFault};
 
 /// Does an access go through the caches?
 #[derive(Clone, Copy, Debug, Eq, PartialEq, Hash)]
+#[cfg_attr(feature = "serde", derive(serde::Serialize, serde::Deserialize))]
+#[repr(u8)]
 pub enum Cached {
     /// Through them.
     Yes,
@@ -14,22 +17,26 @@ pub enum Cached {
 }
 
 impl Cached {
+    #[inline(always)]
     fn of(cached: bool) -> Self {
         if cached { Self::Yes } else { Self::No }
     }
 }
 
-/// A translated address.
+/// A translated address. Laid out as [`ffi::Looked`] is.
 #[derive(Clone, Copy, Debug, Eq, PartialEq, Hash)]
+#[cfg_attr(feature = "serde", derive(serde::Serialize, serde::Deserialize))]
+#[repr(C)]
 pub struct Physical {
-    /// The physical address.
-    pub addr: u32,
     /// Whether the access is cached.
     pub cached: Cached,
+    /// The physical address.
+    pub addr: u32,
 }
 
 /// How an address is reached.
 #[derive(Clone, Copy, Debug, Eq, PartialEq)]
+#[cfg_attr(feature = "serde", derive(serde::Serialize, serde::Deserialize))]
 pub enum Segment {
     /// Directly.
     Direct {
@@ -46,6 +53,8 @@ pub enum Segment {
 
 /// The mode that an access is made in.
 #[derive(Clone, Copy, Debug, Eq, PartialEq)]
+#[cfg_attr(feature = "serde", derive(serde::Serialize, serde::Deserialize))]
+#[repr(u8)]
 pub enum Mode {
     /// `Status.KSU` is 0, or `EXL` is set.
     Kernel,
@@ -55,8 +64,10 @@ pub enum Mode {
     User,
 }
 
-/// What decides about an address beside the address itself.
+/// What decides about an address beside the address itself. Laid out as [`ffi::By`] is.
 #[derive(Clone, Copy, Debug, Eq, PartialEq)]
+#[cfg_attr(feature = "serde", derive(serde::Serialize, serde::Deserialize))]
+#[repr(C, align(4))]
 pub struct Access {
     /// The mode.
     pub mode: Mode,
@@ -79,46 +90,33 @@ impl Access {
     ///
     /// [`Refusal::Mode`] where KSU is 3 and EXL is 0.
     pub fn from_status(status: u64) -> Result<Self, Refusal> {
-        let granted = ffi::room_from_status(status);
-        match granted.refused {
-            0 => Ok(Self::of(granted.access)),
-            refused => Err(Refusal::numbered(refused)),
-        }
-    }
-
-    fn of(by: By) -> Self {
-        let mode = match by.mode {
-            0 => Mode::Kernel,
-            1 => Mode::Supervisor,
-            _ => Mode::User,
+        let granted = ffi::rimjhodek_from_status(status);
+        let mode = match (granted.refused, granted.mode) {
+            (0, 0) => Mode::Kernel,
+            (0, 1) => Mode::Supervisor,
+            (0, _) => Mode::User,
+            (refused, _) => return Err(Refusal::numbered(refused)),
         };
-        Self { mode, wide: by.wide, erl: by.erl }
-    }
-
-    fn by(self) -> By {
-        let mode = match self.mode {
-            Mode::Kernel => 0,
-            Mode::Supervisor => 1,
-            Mode::User => 2,
-        };
-        By { mode, wide: self.wide, erl: self.erl }
+        Ok(Self { mode, wide: granted.wide, erl: granted.erl })
     }
 }
 
 /// How an address is reached by an access, without the TLB.
 #[must_use]
+#[inline(always)]
 pub fn segment(vaddr: u64, access: Access) -> Segment {
-    let reached = ffi::room_segment(vaddr, access.by());
+    let reached = ffi::rimjhodek_segment(vaddr, access.into());
+    refusal::none(reached.refused);
     match reached.kind {
         0 => Segment::Direct { addr: reached.addr, cached: Cached::of(reached.cached) },
         1 => Segment::Mapped,
-        2 => Segment::Invalid,
-        kind => unreachable!("an address is reached in no way that has the number {kind}"),
+        _ => Segment::Invalid,
     }
 }
 
 /// Why a translation failed.
 #[derive(Clone, Copy, Debug, Eq, PartialEq)]
+#[cfg_attr(feature = "serde", derive(serde::Serialize, serde::Deserialize))]
 pub enum TranslateError {
     /// The address is not of the access's mode: an address error.
     Address,
@@ -128,6 +126,8 @@ pub enum TranslateError {
 
 impl TranslateError {
     /// The error that has a number, of those from 1 that [`ffi::Looked`] holds.
+    #[cold]
+    #[inline(never)]
     fn numbered(error: u8) -> Self {
         match error {
             4 => Self::Address,
@@ -141,6 +141,7 @@ impl TranslateError {
 /// # Errors
 ///
 /// [`TranslateError::Address`] or the TLB's fault. Two entries that match shut the TLB down.
+#[inline(always)]
 pub fn translate_via(
     tlb: &mut Tlb,
     vaddr: u64,
@@ -148,10 +149,9 @@ pub fn translate_via(
     store: bool,
     access: Access,
 ) -> Result<Physical, TranslateError> {
-    let looked = ffi::room_translate_via(&tlb.words, tlb.micro, vaddr, asid, store, access.by());
-    tlb.micro = looked.micro;
-    match looked.error {
-        0 => Ok(Physical { addr: looked.addr, cached: Cached::of(!looked.uncached) }),
-        error => Err(TranslateError::numbered(error)),
+    let looked = ffi::rimjhodek_translate_via(&mut tlb.words, vaddr, asid, store, access.into());
+    if looked.error == 0 {
+        return Ok(Physical { addr: looked.addr, cached: Cached::of(!looked.uncached) });
     }
+    Err(TranslateError::numbered(looked.error))
 }

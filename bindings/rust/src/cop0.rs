@@ -2,9 +2,7 @@
 //! interrupts.
 
 use crate::Refusal;
-use crate::ffi;
-
-pub use crate::ffi::Clock;
+use crate::ffi::{self, COP0_WORDS};
 
 /// Register numbers, by name.
 pub mod reg {
@@ -73,7 +71,7 @@ pub const WIDE: u32 = (1 << reg::ENTRY_LO0)
 /// Is register `n` 64 bits wide?
 #[must_use]
 pub fn is_wide(n: u8) -> bool {
-    ffi::room_is_wide(n)
+    ffi::rimjhodek_is_wide(n.into())
 }
 
 /// The bits of each register that software can write.
@@ -118,13 +116,30 @@ pub const ARCH_MASK: [u64; 32] = {
     m
 };
 
+/// The places of a register file's words after the 32 registers.
+pub mod word {
+    /// The clock's position.
+    pub const NOW: usize = 32;
+    /// Count at its epoch: 32 bits.
+    pub const EPOCH_COUNT: usize = 33;
+    /// The position at that epoch.
+    pub const EPOCH_NOW: usize = 34;
+    /// Count when the timer was last asked: 32 bits.
+    pub const LAST_COUNT: usize = 35;
+    /// `Config.EC`: 8 bits.
+    pub const EC: usize = 36;
+    /// The last `MTC0` or `DMTC0`, which the unused registers read.
+    pub const LATCH: usize = 37;
+}
+
 /// The register file.
 #[derive(Clone, Debug, Eq, PartialEq)]
+#[cfg_attr(feature = "serde", derive(serde::Serialize, serde::Deserialize))]
 pub struct Cop0 {
-    /// The registers as stored; a read applies their masks.
-    pub regs: [u64; 32],
-    /// Count's timeline, and what else is no register.
-    pub clock: Clock,
+    /// The registers as stored, and then what [`word`] names. These are all of the state: what is
+    /// the same in them is the same, and a copy of them goes on as this one.
+    #[cfg_attr(feature = "serde", serde(with = "crate::arrays"))]
+    pub words: [u64; COP0_WORDS],
 }
 
 impl Default for Cop0 {
@@ -140,91 +155,101 @@ impl Cop0 {
 
     /// Is this one of [`Cop0::UNUSED`]?
     #[must_use]
+    #[inline(always)]
     pub fn is_unused(n: u8) -> bool {
-        ffi::room_is_unused(n)
+        ffi::rimjhodek_is_unused(n.into())
     }
 
     /// The registers as at cold reset.
     #[must_use]
     pub fn new() -> Self {
-        let mut regs = [0; 32];
-        let clock = ffi::room_cop0_new(&mut regs);
-        Self { regs, clock }
+        let mut words = [0; COP0_WORDS];
+        ffi::rimjhodek_cop0_new(&mut words);
+        Self { words }
     }
 
     /// Reads a register.
     #[must_use]
+    #[inline(always)]
     pub fn read(&self, n: u8) -> u64 {
-        ffi::room_read(&self.regs, self.clock, n)
+        ffi::rimjhodek_dmfc0(&self.words, n.into())
     }
 
     /// Writes the bits of a register that [`WRITE_MASK`] has.
+    #[inline(always)]
     pub fn write(&mut self, n: u8, value: u64) {
-        self.clock = ffi::room_write(&mut self.regs, self.clock, n, value);
+        ffi::rimjhodek_write(&mut self.words, n.into(), value);
     }
 
     /// Writes a register as the hardware does: the bits that [`ARCH_MASK`] has.
+    #[inline(always)]
     pub fn set_hardware(&mut self, n: u8, value: u64) {
-        ffi::room_set_hardware(&mut self.regs, n, value);
+        ffi::rimjhodek_set_hardware(&mut self.words, n.into(), value);
     }
 
     /// `MFC0 rt, rd`: the low 32 bits, sign-extended.
     #[must_use]
+    #[inline(always)]
     pub fn mfc0(&self, n: u8) -> u64 {
-        ffi::room_mfc0(&self.regs, self.clock, n)
+        ffi::rimjhodek_mfc0(&self.words, n.into())
     }
 
     /// `DMFC0 rt, rd`: all 64 bits.
     #[must_use]
+    #[inline(always)]
     pub fn dmfc0(&self, n: u8) -> u64 {
-        ffi::room_dmfc0(&self.regs, self.clock, n)
+        ffi::rimjhodek_dmfc0(&self.words, n.into())
     }
 
     /// `MTC0 rd, rt`: the low 32 bits, sign-extended for a register of 64 bits.
+    #[inline(always)]
     pub fn mtc0(&mut self, n: u8, value: u64) {
-        self.clock = ffi::room_mtc0(&mut self.regs, self.clock, n, value);
+        ffi::rimjhodek_mtc0(&mut self.words, n.into(), value);
     }
 
     /// `DMTC0 rd, rt`: all 64 bits.
+    #[inline(always)]
     pub fn dmtc0(&mut self, n: u8, value: u64) {
-        self.clock = ffi::room_dmtc0(&mut self.regs, self.clock, n, value);
+        ffi::rimjhodek_dmtc0(&mut self.words, n.into(), value);
     }
 
     /// Sets the clock's position. It is set and not moved, so a call dropped or repeated does no
     /// harm.
-    pub fn set_now(&mut self, now: u64) {
-        self.clock = ffi::room_set_now(self.clock, now);
+    pub const fn set_now(&mut self, now: u64) {
+        self.words[word::NOW] = now;
     }
 
     /// The clock's position.
     #[must_use]
-    pub fn count_now(&self) -> u64 {
-        ffi::room_count_now(self.clock)
+    pub const fn count_now(&self) -> u64 {
+        self.words[word::NOW]
     }
 
     /// Count.
     #[must_use]
+    #[inline(always)]
     pub fn count(&self) -> u32 {
-        ffi::room_count(self.clock)
+        ffi::rimjhodek_count(&self.words)
     }
 
     /// Is Count equal to Compare?
     #[must_use]
+    #[inline(always)]
     pub fn timer_matches(&self) -> bool {
-        ffi::room_timer_matches(&self.regs, self.clock)
+        ffi::rimjhodek_timer_matches(&self.words)
     }
 
     /// Has Count come to Compare since the timer was last asked?
+    #[inline(always)]
     pub fn timer_edge(&mut self) -> bool {
-        let polled = ffi::room_timer_edge(&self.regs, self.clock);
-        self.clock = polled.clock;
-        polled.edge
+        ffi::rimjhodek_timer_edge(&mut self.words)
     }
 
     /// How many counts may pass until the timer's next edge.
     #[must_use]
+    #[inline(always)]
     pub fn count_ticks_until_timer_match(&self) -> u64 {
-        ffi::room_count_ticks_until_timer_match(&self.regs, self.clock)
+        ffi::rimjhodek_count_ticks_until_timer_match(&self.words)
     }
 
     /// Moves the clock by `counts` and Random by `steps`, asks the timer and sets pending bit 7 on
@@ -233,40 +258,44 @@ impl Cop0 {
     /// # Errors
     ///
     /// [`Refusal::Counts`] from 2^32 counts on; nothing has moved then.
+    #[inline(always)]
     pub fn advance(&mut self, counts: u64, steps: u64) -> Result<bool, Refusal> {
-        let advanced = ffi::room_advance(&mut self.regs, self.clock, counts, steps);
-        self.clock = advanced.clock;
-        match advanced.answer {
-            0 => Ok(false),
-            1 => Ok(true),
-            refused => Err(Refusal::numbered(refused)),
+        let edge = ffi::rimjhodek_advance(&mut self.words, counts, steps);
+        if edge.refused == 0 {
+            return Ok(edge.is);
         }
+        Err(Refusal::numbered(edge.refused))
     }
 
     /// The hardware sets or clears a pending bit of Cause.
+    #[inline(always)]
     pub fn set_ip(&mut self, bit: u8, on: bool) {
-        ffi::room_set_ip(&mut self.regs, bit, on);
+        ffi::rimjhodek_set_ip(&mut self.words, bit.into(), on);
     }
 
     /// Is an interrupt taken now?
     #[must_use]
+    #[inline(always)]
     pub fn interrupt_pending(&self) -> bool {
-        ffi::room_interrupt_pending(&self.regs)
+        ffi::rimjhodek_interrupt_pending(&self.words)
     }
 
     /// One step of Random.
+    #[inline(always)]
     pub fn tick_random(&mut self) {
-        ffi::room_tick_random(&mut self.regs);
+        ffi::rimjhodek_tick_random(&mut self.words);
     }
 
     /// `n` steps of Random.
+    #[inline(always)]
     pub fn tick_random_by(&mut self, n: u64) {
-        ffi::room_tick_random_by(&mut self.regs, n);
+        ffi::rimjhodek_tick_random_by(&mut self.words, n);
     }
 }
 
 /// The access forms.
 #[derive(Clone, Copy, Debug, Eq, PartialEq)]
+#[cfg_attr(feature = "serde", derive(serde::Serialize, serde::Deserialize))]
 pub enum Cop0Op {
     /// `MFC0 rt, rd`: a 32-bit read.
     Mfc0,
@@ -282,11 +311,12 @@ impl Cop0Op {
     /// The access form that the rs field of a COP0 instruction names, if it names one.
     #[must_use]
     pub fn from_rs(rs: u8) -> Option<Self> {
-        match ffi::room_from_rs(rs) {
-            0 => Some(Self::Mfc0),
-            1 => Some(Self::Dmfc0),
-            4 => Some(Self::Mtc0),
-            5 => Some(Self::Dmtc0),
+        let form = ffi::rimjhodek_from_rs(rs.into());
+        match (form.refused, form.value) {
+            (0, 0) => Some(Self::Mfc0),
+            (0, 1) => Some(Self::Dmfc0),
+            (0, 2) => Some(Self::Mtc0),
+            (0, 3) => Some(Self::Dmtc0),
             _ => None,
         }
     }

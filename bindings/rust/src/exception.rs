@@ -1,9 +1,8 @@
 //! Exceptions: their codes and vectors, taking one, and returning from it.
 
 use crate::cop0::Cop0;
-use crate::ffi::{self, Exc};
-
-pub use crate::ffi::Dispatch;
+use crate::ffi::{self, Exc, Taken};
+use crate::refusal;
 
 /// The values of `Cause.ExcCode`.
 pub mod exc_code {
@@ -43,6 +42,8 @@ pub mod exc_code {
 
 /// The exceptions, of the original's `pipeline`.
 #[derive(Clone, Copy, Debug, Eq, PartialEq, Hash)]
+#[cfg_attr(feature = "serde", derive(serde::Serialize, serde::Deserialize))]
+#[repr(u8, align(4))]
 pub enum Exception {
     /// An interrupt was accepted.
     Interrupt,
@@ -93,6 +94,7 @@ pub enum Exception {
 
 impl Exception {
     /// As it crosses: its number, and the values that it holds.
+    #[inline(always)]
     fn exc(self) -> Exc {
         let plain = |number| Exc { number, store: false, wide: false, unit: 0 };
         match self {
@@ -116,6 +118,8 @@ impl Exception {
 
 /// Which vector an exception uses.
 #[derive(Clone, Copy, Debug, Eq, PartialEq)]
+#[cfg_attr(feature = "serde", derive(serde::Serialize, serde::Deserialize))]
+#[repr(u8)]
 pub enum VectorKind {
     /// The common one, at 0x180.
     General,
@@ -130,48 +134,69 @@ pub enum VectorKind {
 /// Where a handler starts.
 #[must_use]
 pub fn vector(status: u64, kind: VectorKind) -> u64 {
-    let kind = match kind {
-        VectorKind::General => 0,
-        VectorKind::TlbRefill => 1,
-        VectorKind::XtlbRefill => 2,
-        VectorKind::Reset => 3,
-    };
-    ffi::room_vector(status, kind)
+    let vector = ffi::rimjhodek_vector(status, kind as u8);
+    refusal::none(vector.refused);
+    vector.value
 }
 
 /// The ExcCode that an exception reports.
 #[must_use]
 pub fn exc_code_of(exc: Exception) -> u64 {
-    ffi::room_exc_code_of(exc.exc())
+    let code = ffi::rimjhodek_exc_code_of(exc.exc());
+    refusal::none(code.refused);
+    code.value
 }
 
 /// Which vector an exception uses.
 #[must_use]
 pub fn vector_kind_of(exc: Exception) -> VectorKind {
-    match ffi::room_vector_kind_of(exc.exc()) {
+    let kind = ffi::rimjhodek_vector_kind_of(exc.exc());
+    refusal::none(kind.refused);
+    match kind.value {
         0 => VectorKind::General,
         1 => VectorKind::TlbRefill,
         2 => VectorKind::XtlbRefill,
-        3 => VectorKind::Reset,
-        kind => unreachable!("no vector has the number {kind}"),
+        _ => VectorKind::Reset,
     }
 }
 
 /// Does an exception have a faulting address?
 #[must_use]
 pub fn writes_bad_vaddr(exc: Exception) -> bool {
-    ffi::room_writes_bad_vaddr(exc.exc())
+    let writes = ffi::rimjhodek_writes_bad_vaddr(exc.exc());
+    refusal::none(writes.refused);
+    writes.is
+}
+
+/// The result of taking an exception.
+#[derive(Clone, Copy, Debug, Eq, PartialEq)]
+#[cfg_attr(feature = "serde", derive(serde::Serialize, serde::Deserialize))]
+pub struct Dispatch {
+    /// Where to fetch next.
+    pub vector: u64,
+    /// The pipeline's cycles that the exception costs.
+    pub stall_cycles: u32,
+}
+
+impl Dispatch {
+    #[inline(always)]
+    fn of(taken: Taken) -> Self {
+        refusal::none(taken.refused);
+        Self { vector: taken.vector, stall_cycles: taken.stall_cycles }
+    }
 }
 
 /// The stall when an exception is taken.
 pub const EPILOGUE_STALL: u32 = 2;
 
 /// The non-maskable interrupt.
+#[inline(always)]
 pub fn nmi(cop0: &mut Cop0, pc: u64) -> Dispatch {
-    ffi::room_nmi(&mut cop0.regs, pc)
+    Dispatch::of(ffi::rimjhodek_nmi(&mut cop0.words, pc))
 }
 
 /// Takes an exception. `pc` is the address of the instruction that faulted.
+#[inline(always)]
 pub fn dispatch(
     cop0: &mut Cop0,
     exc: Exception,
@@ -179,11 +204,24 @@ pub fn dispatch(
     in_delay_slot: bool,
     bad_vaddr: u64,
 ) -> Dispatch {
-    ffi::room_dispatch(&mut cop0.regs, exc.exc(), pc, in_delay_slot, bad_vaddr)
+    match exc {
+        // What a game takes most, apart from the choice between the others.
+        Exception::TlbRefill { store, wide } => {
+            let exc = Exc { number: 10, store, wide, unit: 0 };
+            take(cop0, exc, pc, in_delay_slot, bad_vaddr)
+        }
+        _ => take(cop0, exc.exc(), pc, in_delay_slot, bad_vaddr),
+    }
+}
+
+#[inline(always)]
+fn take(cop0: &mut Cop0, exc: Exc, pc: u64, in_delay_slot: bool, bad_vaddr: u64) -> Dispatch {
+    Dispatch::of(ffi::rimjhodek_dispatch(&mut cop0.words, exc, pc, in_delay_slot, bad_vaddr))
 }
 
 /// `ERET`: says where to resume. The link bit is the caller's to clear.
 #[must_use]
+#[inline(always)]
 pub fn eret(cop0: &mut Cop0) -> u64 {
-    ffi::room_eret(&mut cop0.regs)
+    ffi::rimjhodek_eret(&mut cop0.words)
 }

@@ -1,60 +1,35 @@
 //! What crosses is where both sides think it is: sizes and offsets as numbers, counted by C's rules
-//! from the structs of `crates/room/src`, and each field through the library and back.
+//! from the structs of `crates/rimjhodek/src`, and each field through the library and back.
 
-use std::mem::{offset_of, size_of};
+use std::mem::{align_of, offset_of, size_of};
 
-use rimjhodek::cop0::reg;
+use rimjhodek::addr::{Access, Mode};
+use rimjhodek::cop0::{ARCH_MASK, Cop0, reg, word};
 use rimjhodek::ffi::{
-    self, Advanced, By, Clock, DataLine, DataPlan, Dispatch, Entry, Eviction, Exc, Flag, Granted,
-    InstructionLine, Looked, Micro, Number, PageEntry, Plan, Polled, Probed, Reached,
+    self, By, DataLine, DataPlan, Eviction, Exc, Flag, Granted, InstructionLine, Looked, Number,
+    Plan, Reached, Taken,
 };
+use rimjhodek::tlb::{self, Entry, PageEntry, Tlb};
 
 /// A struct's size, and the offsets of its fields in their order.
 macro_rules! layout {
-    ($of:ty, $size:literal, $($($field:ident).+ = $offset:literal),+) => {
+    ($of:ty, $size:literal, $($field:ident = $offset:literal),+) => {
         assert_eq!(size_of::<$of>(), $size, "size of {}", stringify!($of));
         $(assert_eq!(
-            offset_of!($of, $($field).+), $offset, "{}.{}", stringify!($of), stringify!($($field).+)
+            offset_of!($of, $field), $offset, "{}.{}", stringify!($of), stringify!($field)
         );)+
     };
 }
 
 #[test]
 fn sizes_and_offsets() {
-    layout!(
-        Clock,
-        40,
-        now = 0,
-        count_epoch_value = 8,
-        count_epoch_tick = 16,
-        last_count = 24,
-        ec = 28,
-        write_latch = 32
-    );
-    layout!(Polled, 48, edge = 0, clock = 8);
-    layout!(Advanced, 48, answer = 0, clock = 8);
-    layout!(Micro, 4, itlb = 0, itlb_lru = 2, shutdown = 3);
-    layout!(PageEntry, 8, pfn = 0, c = 4, dirty = 5, valid = 6);
-    layout!(
-        Entry,
-        40,
-        page_mask = 0,
-        vpn2 = 8,
-        asid = 16,
-        global = 17,
-        region = 18,
-        lo0 = 20,
-        lo1 = 28
-    );
-    layout!(Looked, 12, addr = 0, error = 4, uncached = 5, micro = 6);
-    layout!(Probed, 5, hit = 0, micro = 1);
-    layout!(By, 3, mode = 0, wide = 1, erl = 2);
-    layout!(Granted, 4, refused = 0, access = 1);
-    layout!(Reached, 8, addr = 0, kind = 4, cached = 5);
-    layout!(Exc, 4, number = 0, store = 1, wide = 2, unit = 3);
-    layout!(Dispatch, 16, vector = 0, stall_cycles = 8);
     layout!(Flag, 2, refused = 0, is = 1);
     layout!(Number, 16, refused = 0, value = 8);
+    layout!(Looked, 8, error = 0, uncached = 1, addr = 4);
+    layout!(Granted, 4, refused = 0, mode = 1, wide = 2, erl = 3);
+    layout!(Reached, 8, refused = 0, kind = 1, cached = 2, addr = 4);
+    layout!(Exc, 4, number = 0, store = 1, wide = 2, unit = 3);
+    layout!(Taken, 16, refused = 0, stall_cycles = 4, vector = 8);
     layout!(Plan, 8, refused = 0, plan = 1, addr = 4);
     layout!(Eviction, 8, refused = 0, evict = 1, addr = 4);
     layout!(DataPlan, 24, plan = 0, data = 8);
@@ -62,143 +37,154 @@ fn sizes_and_offsets() {
     layout!(InstructionLine, 40, eviction = 0, data = 8);
 }
 
-/// Each byte of it is another.
-const CLOCK: Clock = Clock {
-    now: 0x0102_0304_0506_0708,
-    count_epoch_value: 0x1112_1314,
-    count_epoch_tick: 0x2122_2324_2526_2728,
-    last_count: 0x3132_3334,
-    ec: 0x41,
-    write_latch: 0x5152_5354_5556_5758,
-};
-
-/// Count of that clock: 0x1112_1314 + 0x0506_0708 - 0x2526_2728, modulo 2^32.
-const COUNT: u32 = 0xF0F1_F2F4;
-
-/// Each register is another, with Random above Wired.
-fn registers() -> [u64; 32] {
-    let mut regs = std::array::from_fn(|n| 0xA0B0_C0D0_0000_0000 + 0x0101 * n as u64);
-    regs[usize::from(reg::RANDOM)] = 5;
-    regs[usize::from(reg::WIRED)] = 2;
-    regs
+/// In C it has 3 bytes. `By` takes an access over as it is.
+#[test]
+fn an_access_has_one_byte_more_than_it_needs() {
+    layout!(By, 4, mode = 0, wide = 1, erl = 2);
+    layout!(Access, 4, mode = 0, wide = 1, erl = 2);
+    assert_eq!((align_of::<By>(), align_of::<Access>()), (4, 4));
+    for (number, mode) in (0..).zip([Mode::Kernel, Mode::Supervisor, Mode::User]) {
+        for (wide, erl) in [(false, false), (false, true), (true, false), (true, true)] {
+            let by = By { mode: number, wide, erl };
+            assert_eq!(By::from(Access { mode, wide, erl }), by);
+        }
+    }
 }
 
+/// Registers that are each another, with Random above Wired; each byte of the clock is another too.
+fn registers() -> Cop0 {
+    let mut words = std::array::from_fn(|n| 0xA0B0_C0D0_0000_0000 + 0x0101 * n as u64);
+    words[usize::from(reg::RANDOM)] = 5;
+    words[usize::from(reg::WIRED)] = 2;
+    words[word::NOW] = 0x0102_0304_0506_0708;
+    words[word::EPOCH_COUNT] = 0x1112_1314;
+    words[word::EPOCH_NOW] = 0x2122_2324_2526_2728;
+    words[word::LAST_COUNT] = 0x3132_3334;
+    words[word::EC] = 0x41;
+    words[word::LATCH] = 0x5152_5354_5556_5758;
+    Cop0 { words }
+}
+
+/// Count of those words: 0x1112_1314 + 0x0506_0708 - 0x2526_2728, modulo 2^32.
+const COUNT: u32 = 0xF0F1_F2F4;
+
 #[test]
-fn clock_goes_in_and_out() {
-    let now = 0x6162_6364_6566_6768;
-    assert_eq!(ffi::room_set_now(CLOCK, now), Clock { now, ..CLOCK });
-    assert_eq!(ffi::room_count_now(CLOCK), CLOCK.now);
-    assert_eq!(ffi::room_count(CLOCK), COUNT);
-    let regs = [0; 32];
-    assert_eq!(ffi::room_read(&regs, CLOCK, 7), CLOCK.write_latch);
-    assert_eq!(ffi::room_read(&regs, CLOCK, reg::CONFIG), 0x4_1006_6460);
-    let to_zero = u64::from(CLOCK.last_count.wrapping_neg());
-    assert_eq!(ffi::room_count_ticks_until_timer_match(&regs, CLOCK), to_zero);
+fn the_clock_is_lent_in_order() {
+    let mut cop0 = registers();
+    assert_eq!(cop0.count(), COUNT);
+    assert_eq!(cop0.count_now(), 0x0102_0304_0506_0708);
+    assert_eq!(cop0.read(7), 0x5152_5354_5556_5758);
+    cop0.words[usize::from(reg::CONFIG)] = 0;
+    assert_eq!(cop0.read(reg::CONFIG), 0x4_1006_6460);
+    cop0.words[usize::from(reg::COMPARE)] = 0;
+    let to_zero = u64::from(0x3132_3334_u32.wrapping_neg());
+    assert_eq!(cop0.count_ticks_until_timer_match(), to_zero);
+    cop0.set_now(0x0102_0304_0506_0709);
+    assert_eq!(cop0.count(), COUNT + 1);
 }
 
 #[test]
 fn registers_are_lent_in_order() {
-    let regs = registers();
+    let cop0 = registers();
     for n in (0..32).filter(|n| ![reg::COUNT, reg::CONFIG].contains(n)) {
-        let mask = rimjhodek::cop0::ARCH_MASK[usize::from(n)];
-        let unused = rimjhodek::cop0::Cop0::UNUSED.contains(&n);
-        let expected = if unused { CLOCK.write_latch } else { regs[usize::from(n)] & mask };
-        assert_eq!(ffi::room_read(&regs, CLOCK, n), expected, "register {n}");
+        let at = usize::from(n);
+        let unused = Cop0::UNUSED.contains(&n);
+        let stored = cop0.words[at] & ARCH_MASK[at];
+        assert_eq!(cop0.read(n), if unused { cop0.words[word::LATCH] } else { stored });
     }
 }
 
 #[test]
-fn advanced_comes_out() {
-    let mut regs = registers();
-    regs[usize::from(reg::COMPARE)] = u64::from(COUNT) + 2;
-    let before = Clock { last_count: COUNT, ..CLOCK };
-    let after = Clock { now: before.now + 3, last_count: COUNT + 3, ..before };
-    let mut expected = regs;
-    expected[usize::from(reg::RANDOM)] = 4;
-    expected[usize::from(reg::CAUSE)] |= 1 << 15;
-    let advanced = ffi::room_advance(&mut regs, before, 3, 1);
-    assert_eq!(advanced, Advanced { answer: 1, clock: after });
-    assert_eq!(regs, expected);
+fn an_edge_comes_out() {
+    let mut cop0 = registers();
+    cop0.words[usize::from(reg::COMPARE)] = u64::from(COUNT) + 2;
+    cop0.words[word::LAST_COUNT] = COUNT.into();
+    let mut expected = cop0.clone();
+    expected.words[word::NOW] += 3;
+    expected.words[word::LAST_COUNT] += 3;
+    expected.words[usize::from(reg::RANDOM)] = 4;
+    expected.words[usize::from(reg::CAUSE)] |= 1 << 15;
+    let edge = ffi::rimjhodek_advance(&mut cop0.words, 3, 1);
+    assert_eq!(edge, Flag { refused: 0, is: true });
+    assert_eq!(cop0, expected);
+    let none = ffi::rimjhodek_advance(&mut cop0.words, 3, 1);
+    assert_eq!(none, Flag { refused: 0, is: false });
 }
 
 #[test]
-fn polled_comes_out() {
-    let mut regs = registers();
-    let after = Clock { last_count: COUNT, ..CLOCK };
-    regs[usize::from(reg::COMPARE)] = u64::from(COUNT);
-    assert_eq!(ffi::room_timer_edge(&regs, CLOCK), Polled { edge: true, clock: after });
-    regs[usize::from(reg::COMPARE)] = u64::from(CLOCK.last_count);
-    assert_eq!(ffi::room_timer_edge(&regs, CLOCK), Polled { edge: false, clock: after });
+fn the_timer_is_asked() {
+    for (compare, edge) in [(COUNT, true), (0x3132_3334, false)] {
+        let mut cop0 = registers();
+        cop0.words[usize::from(reg::COMPARE)] = compare.into();
+        let mut expected = cop0.clone();
+        expected.words[word::LAST_COUNT] = COUNT.into();
+        assert_eq!(ffi::rimjhodek_timer_edge(&mut cop0.words), edge);
+        assert_eq!(cop0, expected);
+    }
 }
 
 /// Address 0x1_2000 in address space 7, by entry 5: to 0xABCDE000, uncached; to 0x12345000, cached,
 /// one page on.
-fn table() -> [u64; 128] {
-    let mut words = [0; 128];
-    ffi::room_tlb_new(&mut words);
-    words[20..24].copy_from_slice(&[
+fn table() -> Tlb {
+    let mut tlb = Tlb::new();
+    tlb.words[20..24].copy_from_slice(&[
         0,
         0x1_2000 | 7,
         0xABCDE << 6 | 2 << 3 | 0b110,
         0x12345 << 6 | 3 << 3 | 0b010,
     ]);
-    words
+    tlb
 }
 
-const MICRO: Micro = Micro { itlb: [9, 5], itlb_lru: 0, shutdown: false };
+/// A table with these micro-TLB and shutdown words.
+fn table_with(micro: [u64; 4]) -> Tlb {
+    let mut tlb = table();
+    tlb.words[tlb::word::SLOT0..].copy_from_slice(&micro);
+    tlb
+}
 
 #[test]
-fn micro_goes_in_and_out() {
-    let words = table();
-    // An address that no entry matches: all comes back as it was.
-    for itlb in [[9, 5], [5, 9], [32, 255]] {
-        for itlb_lru in [0, 1, 200] {
-            for shutdown in [false, true] {
-                let micro = Micro { itlb, itlb_lru, shutdown };
-                assert_eq!(ffi::room_tlb_itlb_fill(&words, micro, 0x4_0000, 7), micro);
-            }
-        }
+fn the_micro_tlb_is_lent_in_order() {
+    // An address that no entry matches: all stays as it was.
+    for micro in [[9, 5, 0, 0], [5, 9, 1, 1], [32, 255, 200, 0]] {
+        let mut tlb = table_with(micro);
+        tlb.itlb_fill(0x4_0000, 7);
+        assert_eq!(tlb, table_with(micro));
     }
-    // One that entry 5 matches: each field is read where it is.
-    let filled = ffi::room_tlb_itlb_fill(&words, Micro { itlb: [9, 8], ..MICRO }, 0x1_2000, 7);
-    assert_eq!(filled, Micro { itlb: [5, 8], itlb_lru: 1, shutdown: false });
-    assert!(ffi::room_tlb_jtlb_has_match(&words, MICRO, 0x1_2000, 7));
-    let off = Micro { shutdown: true, ..MICRO };
-    assert!(!ffi::room_tlb_jtlb_has_match(&words, off, 0x1_2000, 7));
-}
-
-#[test]
-fn probed_comes_out() {
-    let words = table();
-    let hit =
-        |itlb, itlb_lru| Probed { hit: true, micro: Micro { itlb, itlb_lru, shutdown: true } };
-    let given = |itlb| Micro { itlb, itlb_lru: 77, shutdown: true };
-    let probe = |itlb| ffi::room_tlb_itlb_probe(&words, given(itlb), 0x1_2000, 7);
-    assert_eq!(probe([5, 9]), hit([5, 9], 1));
-    assert_eq!(probe([9, 5]), hit([9, 5], 0));
-    assert_eq!(probe([9, 8]), Probed { hit: false, micro: given([9, 8]) });
+    // One that entry 5 matches.
+    let mut tlb = table_with([9, 8, 0, 0]);
+    tlb.itlb_fill(0x1_2000, 7);
+    assert_eq!(tlb, table_with([5, 8, 1, 0]));
+    for (slots, hit, next) in [([5, 9], true, 1), ([9, 5], true, 0), ([9, 8], false, 77)] {
+        let mut tlb = table_with([slots[0], slots[1], 77, 0]);
+        assert_eq!(tlb.itlb_probe(0x1_2000, 7), hit);
+        assert_eq!(tlb, table_with([slots[0], slots[1], next, 0]));
+    }
+    assert!(table_with([9, 5, 0, 0]).jtlb_has_match(0x1_2000, 7));
+    assert!(!table_with([9, 5, 0, 1]).jtlb_has_match(0x1_2000, 7));
 }
 
 #[test]
 fn looked_comes_out() {
-    let words = table();
-    let look = |vaddr, store| ffi::room_tlb_lookup(&words, MICRO, vaddr, 7, store);
-    let even = Looked { addr: 0xABCD_E678, error: 0, uncached: true, micro: MICRO };
-    let odd = Looked { addr: 0x1234_5678, error: 0, uncached: false, micro: MICRO };
+    let mut tlb = table();
+    let mut look = |vaddr, store| ffi::rimjhodek_lookup(&mut tlb.words, vaddr, 7, store);
+    let even = Looked { error: 0, uncached: true, addr: 0xABCD_E678 };
+    let odd = Looked { error: 0, uncached: false, addr: 0x1234_5678 };
     assert_eq!(look(0x1_2678, true), even);
     assert_eq!(look(0x1_3678, false), odd);
-    let fault = |error| Looked { addr: 0, error, uncached: false, micro: MICRO };
+    let fault = |error| Looked { error, uncached: false, addr: 0 };
     assert_eq!(look(0x4_0000, false), fault(1));
     assert_eq!(look(0x1_3678, true), fault(3));
     let user = By { mode: 2, wide: false, erl: false };
-    let refused = ffi::room_translate_via(&words, MICRO, 0x8000_0000, 7, false, user);
+    let refused = ffi::rimjhodek_translate_via(&mut tlb.words, 0x8000_0000, 7, false, user);
     assert_eq!(refused, fault(4));
+    assert_eq!(tlb, table());
 }
 
 #[test]
-fn entry_comes_out() {
-    let mut words = [0; 128];
-    words[12..16].copy_from_slice(&[
+fn an_entry_is_four_words() {
+    let mut tlb = Tlb::new();
+    tlb.words[12..16].copy_from_slice(&[
         0x0123_4567,
         0x8000_0089_ABCD_E0EF,
         0xABCDE << 6 | 5 << 3 | 0b101,
@@ -208,35 +194,27 @@ fn entry_comes_out() {
     let odd = PageEntry { pfn: 0x12345, c: 3, dirty: false, valid: true };
     let entry = Entry {
         page_mask: 0x0123_4567,
-        vpn2: 0x89_ABCD_E000,
+        // Without the bits under the mask.
+        vpn2: 0x89_ABCD_E000 & !0x0123_4567,
         asid: 0xEF,
         global: true,
         region: 2,
         lo0: even,
         lo1: odd,
     };
-    assert_eq!(ffi::room_tlb_entry(&words, 3), entry);
-    words[14] -= 1;
-    assert_eq!(ffi::room_tlb_entry(&words, 35), Entry { global: false, ..entry });
-}
-
-#[test]
-fn page_entry_goes_in() {
-    // The library reads `c` alone; 2 is everywhere else where it is not there.
-    let uncached = PageEntry { pfn: 0x0303_0303, c: 2, dirty: true, valid: true };
-    let cached = PageEntry { pfn: 0x0202_0202, c: 3, dirty: false, valid: false };
-    assert!(ffi::room_tlb_uncached(uncached));
-    assert!(!ffi::room_tlb_uncached(cached));
+    assert_eq!(tlb.entry(3), entry);
+    tlb.words[14] -= 1;
+    assert!(!tlb.entry(35).global);
 }
 
 #[test]
 fn access_goes_in() {
-    let kind = |vaddr, mode, wide, erl| ffi::room_segment(vaddr, By { mode, wide, erl }).kind;
+    let kind = |vaddr, mode, wide, erl| ffi::rimjhodek_segment(vaddr, By { mode, wide, erl }).kind;
     for wide in [false, true] {
         for erl in [false, true] {
-            let kinds = |vaddr| [0, 1, 2, 255].map(|mode| kind(vaddr, mode, wide, erl));
-            assert_eq!(kinds(0xFFFF_FFFF_8000_0000), [0, 2, 2, 2]);
-            assert_eq!(kinds(0xFFFF_FFFF_C000_0000), [1, 1, 2, 2]);
+            let kinds = |vaddr| [0, 1, 2].map(|mode| kind(vaddr, mode, wide, erl));
+            assert_eq!(kinds(0xFFFF_FFFF_8000_0000), [0, 2, 2]);
+            assert_eq!(kinds(0xFFFF_FFFF_C000_0000), [1, 1, 2]);
         }
     }
     for mode in 0..3 {
@@ -251,60 +229,63 @@ fn access_goes_in() {
 
 #[test]
 fn granted_comes_out() {
-    let granted = |mode, wide, erl| Granted { refused: 0, access: By { mode, wide, erl } };
+    let granted = |mode, wide, erl| Granted { refused: 0, mode, wide, erl };
     for (ksu, width) in [(0, 7), (1, 6), (2, 5)] {
         for wide in [false, true] {
             for erl in [false, true] {
                 let status = ksu << 3 | u64::from(wide) << width | u64::from(erl) << 2;
-                assert_eq!(ffi::room_from_status(status), granted(ksu as u8, wide, erl));
+                assert_eq!(ffi::rimjhodek_from_status(status), granted(ksu as u8, wide, erl));
             }
         }
     }
     let none = Granted { refused: 4, ..granted(0, false, false) };
-    assert_eq!(ffi::room_from_status(3 << 3 | 0xE4), none);
+    assert_eq!(ffi::rimjhodek_from_status(3 << 3 | 0xE4), none);
 }
 
 #[test]
 fn reached_comes_out() {
     let kernel = By { mode: 0, wide: false, erl: false };
-    let reach = |vaddr| ffi::room_segment(vaddr, kernel);
-    let cached = Reached { addr: 0x1234_5678, kind: 0, cached: true };
+    let reach = |vaddr| ffi::rimjhodek_segment(vaddr, kernel);
+    let cached = Reached { refused: 0, kind: 0, cached: true, addr: 0x1234_5678 };
+    let not = |kind| Reached { refused: 0, kind, cached: false, addr: 0 };
     assert_eq!(reach(0xFFFF_FFFF_9234_5678), cached);
     assert_eq!(reach(0xFFFF_FFFF_B234_5678), Reached { cached: false, ..cached });
-    assert_eq!(reach(0x1234_5678), Reached { addr: 0, kind: 1, cached: false });
-    assert_eq!(reach(0x8000_0000), Reached { addr: 0, kind: 2, cached: false });
+    assert_eq!(reach(0x1234_5678), not(1));
+    assert_eq!(reach(0x8000_0000), not(2));
 }
 
 #[test]
 fn exception_goes_in() {
-    let codes = [0, 4, 12, 8, 9, 13, 10, 10, 11, 0, 2, 2, 1, 15, 15];
+    let codes = [0, 4, 12, 8, 9, 13, 10, 10, 11, 0, 2, 2, 1, 15];
     for (number, code) in (0..).zip(codes) {
         for wide in [false, true] {
             let exc = |store| Exc { number, store, wide, unit: 0xFF };
             let stores = u64::from([1, 10, 11].contains(&number));
-            assert_eq!(ffi::room_exc_code_of(exc(false)), code);
-            assert_eq!(ffi::room_exc_code_of(exc(true)), code + stores);
+            let told = |value| Number { refused: 0, value };
+            assert_eq!(ffi::rimjhodek_exc_code_of(exc(false)), told(code));
+            assert_eq!(ffi::rimjhodek_exc_code_of(exc(true)), told(code + stores));
         }
     }
     let refill = |wide: bool| Exc { number: 10, store: !wide, wide, unit: 1 };
-    assert_eq!(ffi::room_vector_kind_of(refill(false)), 1);
-    assert_eq!(ffi::room_vector_kind_of(refill(true)), 2);
+    assert_eq!(ffi::rimjhodek_vector_kind_of(refill(false)), Number { refused: 0, value: 1 });
+    assert_eq!(ffi::rimjhodek_vector_kind_of(refill(true)), Number { refused: 0, value: 2 });
+    assert_eq!(ffi::rimjhodek_writes_bad_vaddr(refill(true)), Flag { refused: 0, is: true });
     for unit in 0..4 {
-        let mut regs = [0; 32];
+        let mut words = [0; 38];
         let exc = Exc { number: 8, store: true, wide: true, unit };
-        ffi::room_dispatch(&mut regs, exc, 0, false, 0);
-        assert_eq!(regs[usize::from(reg::CAUSE)], u64::from(unit) << 28 | 11 << 2);
+        ffi::rimjhodek_dispatch(&mut words, exc, 0, false, 0);
+        assert_eq!(words[usize::from(reg::CAUSE)], u64::from(unit) << 28 | 11 << 2);
     }
 }
 
 #[test]
-fn dispatch_comes_out() {
-    let mut regs = [0; 32];
+fn taken_comes_out() {
+    let mut words = [0; 38];
     let syscall = Exc { number: 3, store: false, wide: false, unit: 0 };
-    let general = Dispatch { vector: 0xFFFF_FFFF_8000_0180, stall_cycles: 2 };
-    assert_eq!(ffi::room_dispatch(&mut regs, syscall, 0, false, 0), general);
-    let reset = Dispatch { vector: 0xFFFF_FFFF_BFC0_0000, stall_cycles: 2 };
-    assert_eq!(ffi::room_nmi(&mut regs, 0), reset);
+    let general = Taken { refused: 0, stall_cycles: 2, vector: 0xFFFF_FFFF_8000_0180 };
+    assert_eq!(ffi::rimjhodek_dispatch(&mut words, syscall, 0, false, 0), general);
+    let reset = Taken { refused: 0, stall_cycles: 2, vector: 0xFFFF_FFFF_BFC0_0000 };
+    assert_eq!(ffi::rimjhodek_nmi(&mut words, 0), reset);
 }
 
 /// An address, and its line in either cache.
@@ -318,18 +299,21 @@ fn bytes<const N: usize>(from: u8) -> [u8; N] {
 /// A data cache that holds the line of ADDR, dirty.
 fn data() -> (Vec<u8>, Vec<u32>) {
     let (mut lines, mut tags) = (vec![0; 8192], vec![0; 512]);
-    assert_eq!(ffi::room_dcache_install(&mut lines, &mut tags, ADDR, &bytes(0x10)), 0);
-    assert_eq!(ffi::room_dcache_write(&mut lines, &mut tags, ADDR, 1, 0x18), 0);
+    assert_eq!(ffi::rimjhodek_dcache_install(&mut lines, &mut tags, ADDR, &bytes(0x10)), 0);
+    assert_eq!(ffi::rimjhodek_dcache_write(&mut lines, &mut tags, ADDR, 1, 0x18), 0);
     (lines, tags)
 }
 
 #[test]
 fn flag_and_number_come_out() {
     let (lines, tags) = data();
-    assert_eq!(ffi::room_dcache_hits(&tags, ADDR), Flag { refused: 0, is: true });
-    assert_eq!(ffi::room_dcache_hits(&tags, 0), Flag { refused: 0, is: false });
-    assert_eq!(ffi::room_dcache_hits(&tags[1..], ADDR), Flag { refused: 1, is: false });
-    let read = |len| ffi::room_dcache_read(&lines, ADDR, len);
+    assert_eq!(ffi::rimjhodek_dcache_hits(&tags, ADDR), Flag { refused: 0, is: true });
+    assert_eq!(ffi::rimjhodek_dcache_hits(&tags, 0), Flag { refused: 0, is: false });
+    assert_eq!(ffi::rimjhodek_dcache_hits(&tags[1..], ADDR), Flag { refused: 1, is: false });
+    let whole: &[u32; 512] = tags[..].try_into().unwrap();
+    assert!(ffi::rimjhodek_dcache_hit(whole, ADDR));
+    assert!(!ffi::rimjhodek_dcache_hit(whole, 0));
+    let read = |len| ffi::rimjhodek_dcache_read(&lines, ADDR, len);
     assert_eq!(read(8), Number { refused: 0, value: 0x1819_1A1B_1C1D_1E1F });
     assert_eq!(read(9), Number { refused: 2, value: 0 });
 }
@@ -337,37 +321,40 @@ fn flag_and_number_come_out() {
 #[test]
 fn plans_come_out() {
     let (lines, tags) = data();
-    let plan = |addr| ffi::room_dcache_miss_plan(&lines, &tags, addr);
+    let plan = |addr| ffi::rimjhodek_dcache_miss_plan(&lines, &tags, addr);
     let none = |plan| DataPlan { plan: Plan { refused: 0, plan, addr: 0 }, data: [0; 16] };
     let evict = Plan { refused: 0, plan: 2, addr: 0x1234_5670 };
     assert_eq!(plan(ADDR), none(0));
     assert_eq!(plan(0), none(1));
     assert_eq!(plan(0x0000_1670), DataPlan { plan: evict, data: bytes(0x10) });
-    let refused = ffi::room_dcache_miss_plan(&lines[1..], &tags, ADDR);
+    let refused = ffi::rimjhodek_dcache_miss_plan(&lines[1..], &tags, ADDR);
     assert_eq!(refused, DataPlan { plan: Plan { refused: 1, plan: 0, addr: 0 }, data: [0; 16] });
 }
 
 #[test]
 fn data_lines_come_out() {
     let (lines, mut tags) = data();
-    let mut flush = |addr| ffi::room_dcache_flush_index(&lines, &mut tags, addr, false, false);
+    let mut flush = |addr| ffi::rimjhodek_dcache_flush_index(&lines, &mut tags, addr, false, false);
     let evict = Eviction { refused: 0, evict: true, addr: 0x1234_5670 };
     let none = Eviction { refused: 0, evict: false, addr: 0 };
     assert_eq!(flush(ADDR), DataLine { eviction: evict, data: bytes(0x10) });
     assert_eq!(flush(0), DataLine { eviction: none, data: [0; 16] });
-    let refused = ffi::room_dcache_flush_index(&lines, &mut tags[1..], ADDR, true, true);
+    let refused = ffi::rimjhodek_dcache_flush_index(&lines, &mut tags[1..], ADDR, true, true);
     assert_eq!(refused, DataLine { eviction: Eviction { refused: 1, ..none }, data: [0; 16] });
 }
 
 #[test]
 fn instruction_lines_come_out() {
     let (mut lines, mut tags) = (vec![0; 16384], vec![0; 512]);
-    assert_eq!(ffi::room_icache_install(&mut lines, &mut tags, ADDR, &bytes(0x20)), 0);
-    let flush = |addr| ffi::room_icache_flush_hit(&lines, &tags, addr);
+    assert_eq!(ffi::rimjhodek_icache_install(&mut lines, &mut tags, ADDR, &bytes(0x20)), 0);
+    let flush = |addr| ffi::rimjhodek_icache_flush_hit(&lines, &tags, addr);
     let evict = Eviction { refused: 0, evict: true, addr: 0x1234_5660 };
     let none = Eviction { refused: 0, evict: false, addr: 0 };
     assert_eq!(flush(ADDR), InstructionLine { eviction: evict, data: bytes(0x20) });
     assert_eq!(flush(0), InstructionLine { eviction: none, data: [0; 32] });
-    let word = ffi::room_icache_read_word(&lines, ADDR);
+    let whole: &[u32; 512] = tags[..].try_into().unwrap();
+    assert!(ffi::rimjhodek_icache_hit(whole, ADDR));
+    assert!(!ffi::rimjhodek_icache_hit(whole, 0));
+    let word = ffi::rimjhodek_icache_read_word(&lines, ADDR);
     assert_eq!(word, Number { refused: 0, value: 0x3839_3A3B });
 }

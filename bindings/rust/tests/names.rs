@@ -1,8 +1,8 @@
 //! The library's sources, `src/ffi` and the C header declare the same functions and the same
 //! structs, and the binding's numbers by name are the library's.
 //!
-//! Types are compared in one spelling, Rust's: `[u64; 32]` after `&` is C's `regs[32]`, and a slice
-//! is a pointer and a length.
+//! Types are compared in one spelling, Rust's: `[u64; 38]` after `&` is C's `cop0[38]`, whose length
+//! the header has by name, and a slice is a pointer and a length.
 
 use std::collections::BTreeMap;
 use std::fs;
@@ -13,7 +13,7 @@ use std::path::{Path, PathBuf};
 type Declared = BTreeMap<String, Vec<String>>;
 
 fn root() -> PathBuf {
-    Path::new(env!("CARGO_MANIFEST_DIR")).join("../..")
+    Path::new(env!("CARGO_MANIFEST_DIR")).join("../../..")
 }
 
 /// A file of the repository, or all files of a folder, without comments.
@@ -73,7 +73,7 @@ fn rust_types(item: &str) -> Vec<String> {
 
 /// The functions that a text of Rattle or Rust declares after a word.
 fn rust_functions(text: &str, word: &str) -> Declared {
-    let heads = text.split(word).skip(1).filter(|head| head.starts_with("room_"));
+    let heads = text.split(word).skip(1).filter(|head| head.starts_with("rimjhodek_"));
     let function = |head: &str| {
         let (name, rest) = head.split_once('(').unwrap();
         let (parameters, rest) = rest.split_once(')').unwrap();
@@ -91,7 +91,7 @@ fn rust_functions(text: &str, word: &str) -> Declared {
 /// A declaration in C as its name and its type.
 fn c_type(item: &str) -> (String, String) {
     let (item, length) = match item.split_once('[') {
-        Some((item, length)) => (item.to_string(), Some(until(length, "]"))),
+        Some((item, length)) => (item.to_string(), Some(header_numbers()[until(length, "]")])),
         None => (item.to_string(), None),
     };
     let (of, name) = item.rsplit_once([' ', '*']).unwrap();
@@ -107,7 +107,7 @@ fn c_type(item: &str) -> (String, String) {
         "size_t" => "usize",
         "bool" => "bool",
         "void" => "()",
-        of => of.strip_prefix("Room").unwrap_or_else(|| panic!("{of} is no type of the header's")),
+        of => of.strip_prefix("Rimjhodek").expect("a type of the header's own"),
     };
     let of = length.map_or(of.to_string(), |length| format!("[{of}; {length}]"));
     let by = match (pointer, constant) {
@@ -129,7 +129,7 @@ fn c_parameter(item: &str) -> String {
 }
 
 fn c_functions(text: &str) -> Declared {
-    let statements = text.split([';', '}']).filter(|statement| statement.contains(" room_"));
+    let statements = text.split([';', '}']).filter(|statement| statement.contains(" rimjhodek_"));
     let function = |statement: &str| {
         let (head, parameters) = statement.split_once('(').unwrap();
         let (name, answer) = c_type(head.trim());
@@ -143,7 +143,7 @@ fn c_functions(text: &str) -> Declared {
 
 /// The structs that a text of Rattle or Rust declares by C's rules.
 fn rust_structs(text: &str) -> Declared {
-    let heads = text.split("#[repr(C)]").skip(1);
+    let heads = text.split("#[repr(C").skip(1);
     let structure = |head: &str| {
         let (_, head) = head.split_once("pub struct ").unwrap();
         let (name, fields) = head.split_once(" {").unwrap();
@@ -155,7 +155,7 @@ fn rust_structs(text: &str) -> Declared {
 }
 
 fn c_structs(text: &str) -> Declared {
-    let heads = text.split("typedef struct Room").skip(1);
+    let heads = text.split("typedef struct Rimjhodek").skip(1);
     let structure = |head: &str| {
         let (name, fields) = head.split_once(" {").unwrap();
         let fields = until(fields, "}").split(';').map(str::trim);
@@ -165,10 +165,29 @@ fn c_structs(text: &str) -> Declared {
     heads.map(structure).collect()
 }
 
+/// The header's numbers by name, without what all names begin with.
+fn header_numbers() -> BTreeMap<String, u64> {
+    let text = header();
+    let items = text.split("enum {").skip(1).flat_map(|part| until(part, "}").split(','));
+    let number = |item: &str| {
+        let (name, value) = item.split_once(" = ").expect("an enum's item has its value");
+        (name.trim().to_string(), value.trim().parse().expect("a number in decimal"))
+    };
+    items.map(number).collect()
+}
+
+/// Those of them whose names begin with some words, under the rest of their names.
+fn header_numbers_of(prefix: &str) -> BTreeMap<String, u64> {
+    let prefix = format!("RIMJHODEK_{prefix}");
+    let numbers = header_numbers().into_iter();
+    let rest = numbers.filter_map(|(name, n)| Some((name.strip_prefix(&prefix)?.to_string(), n)));
+    rest.collect()
+}
+
 #[test]
 fn functions_are_the_same_in_all_three() {
-    let exported = rust_functions(&text("crates/room/src"), "pub extern \"C\" fn ");
-    assert_eq!(exported.len(), 65);
+    let exported = rust_functions(&text("crates/rimjhodek/src"), "pub extern \"C\" fn ");
+    assert_eq!(exported.len(), 64);
     let caches = text("bindings/rust/src/ffi/caches.rs");
     let mut declared = rust_functions(&text("bindings/rust/src/ffi.rs"), "    pub safe fn ");
     let lent = rust_functions(&caches, "    pub fn ");
@@ -181,13 +200,8 @@ fn functions_are_the_same_in_all_three() {
 
 #[test]
 fn structs_are_the_same_in_all_three() {
-    let mut crossing = rust_structs(&text("crates/room/src"));
-    let below: [(&str, &[&str]); 2] =
-        [("crates/tlb/src", &["Entry", "PageEntry"]), ("crates/exception/src", &["Dispatch"])];
-    for (folder, names) in below {
-        let structs = rust_structs(&text(folder));
-        crossing.extend(names.iter().map(|name| (name.to_string(), structs[*name].clone())));
-    }
+    let crossing = rust_structs(&text("crates/rimjhodek/src"));
+    assert_eq!(crossing.len(), 13);
     let structs = rust_structs(&text("bindings/rust/src/ffi/structs.rs"));
     assert_eq!(structs, crossing, "src/ffi/structs.rs");
     assert_eq!(c_structs(&header()), crossing, "rimjhodek.h");
@@ -203,12 +217,107 @@ fn constants(text: &str, of: &str) -> BTreeMap<String, u64> {
     lines.filter_map(constant).collect()
 }
 
+/// The names of the registers in the library's order, as its sources write them.
+fn named_registers() -> Vec<String> {
+    let registers = text("crates/cop0/src/registers.rt");
+    let (_, list) = registers.split_once("fn numbers() -> [u8; 25]").expect("the list of them");
+    let (_, list) = list.split_once("        [").expect("the list's start");
+    let names = until(list, "]").split(',').map(str::trim);
+    let names = names.filter_map(|name| name.strip_prefix("Self::"));
+    names.map(str::to_string).collect()
+}
+
 #[test]
-fn numbers_by_name_are_the_librarys() {
-    let registers = constants(&text("bindings/rust/src/cop0.rs"), "u8");
-    assert_eq!(registers.len(), 25);
-    assert_eq!(registers, constants(&text("crates/cop0/src/registers.rt"), "u8"));
-    let codes = constants(&text("bindings/rust/src/exception.rs"), "u64");
+fn register_numbers_are_the_librarys() {
+    let mut numbers = [0; 25];
+    rimjhodek::ffi::rimjhodek_numbers(&mut numbers);
+    let told = numbers.map(u64::from);
+    let told: BTreeMap<String, u64> = named_registers().into_iter().zip(told).collect();
+    assert_eq!(told.len(), 25);
+    assert_eq!(constants(&text("bindings/rust/src/cop0.rs"), "u8"), told, "src/cop0.rs");
+    let header = header_numbers();
+    for (name, number) in told {
+        assert_eq!(header.get(&format!("RIMJHODEK_{name}")), Some(&number), "{name}");
+    }
+}
+
+#[test]
+fn codes_are_the_librarys() {
+    let codes = constants(&text("crates/exception/src"), "u64");
     assert_eq!(codes.len(), 16);
-    assert_eq!(codes, constants(&text("crates/exception/src"), "u64"));
+    assert_eq!(constants(&text("bindings/rust/src/exception.rs"), "u64"), codes);
+    assert_eq!(header_numbers_of("CODE_"), codes, "rimjhodek.h");
+}
+
+/// An enum's variants in Rust or Rattle, in their order, as C would spell them.
+fn variants(text: &str, of: &str) -> Vec<String> {
+    let (_, body) = text.split_once(&format!("pub enum {of} {{\n")).expect("the enum");
+    let lines = until(body, "\n}").lines();
+    let names = lines.filter_map(|line| line.strip_prefix("    "));
+    let names = names.filter(|line| line.starts_with(|c: char| c.is_ascii_uppercase()));
+    names.map(|name| shouted(name.split([',', ' ', '(']).next().unwrap())).collect()
+}
+
+/// `TlbRefill` as `TLB_REFILL`.
+fn shouted(name: &str) -> String {
+    let mut shout = String::new();
+    for c in name.chars() {
+        if c.is_ascii_uppercase() && !shout.is_empty() {
+            shout.push('_');
+        }
+        shout.push(c.to_ascii_uppercase());
+    }
+    shout
+}
+
+/// The header's numbers of some kind are the places of the library's variants, from a first one,
+/// and so are the crate's.
+fn are_numbered(prefix: &str, of: &str, rattle: &str, rust: &str, first: u64) {
+    let library = variants(&text(rattle), of);
+    let numbered: BTreeMap<String, u64> = library.iter().cloned().zip(first..).collect();
+    assert_eq!(header_numbers_of(prefix), numbered, "rimjhodek.h");
+    assert_eq!(variants(&text(rust), of), library, "{rust}");
+}
+
+#[test]
+fn exceptions_vectors_and_modes_are_the_librarys() {
+    let rust = "bindings/rust/src/exception.rs";
+    are_numbered("EXCEPTION_", "Exception", "crates/exception/src", rust, 0);
+    are_numbered("VECTOR_", "VectorKind", "crates/exception/src", rust, 0);
+    are_numbered("MODE_", "Mode", "crates/addr/src", "bindings/rust/src/addr.rs", 0);
+}
+
+#[test]
+fn refusals_have_one_name_and_number() {
+    let refusals = text("bindings/rust/src/refusal.rs");
+    let (_, body) = refusals.split_once("pub enum Refusal {").expect("the enum");
+    let items = until(body, "\n}").split(',').filter_map(|item| item.trim().split_once(" = "));
+    let numbered: BTreeMap<String, u64> =
+        items.map(|(name, n)| (shouted(name), n.parse().expect("a number"))).collect();
+    assert_eq!(numbered.len(), 7);
+    assert_eq!(header_numbers_of("REFUSED_"), numbered);
+}
+
+/// The places of words, and the lengths of what is lent, by name in the crate and in the header.
+#[test]
+fn places_and_lengths_have_one_number() {
+    let mut places = constants(&text("bindings/rust/src/cop0.rs"), "usize");
+    places.extend(constants(&text("bindings/rust/src/tlb.rs"), "usize"));
+    places.retain(|_, place| *place >= 32);
+    places.remove("JTLB_ENTRIES");
+    assert_eq!(header_numbers_of("WORD_"), places);
+    let header = header_numbers();
+    let lent = [
+        ("COP0_WORDS", rimjhodek::ffi::COP0_WORDS),
+        ("TLB_WORDS", rimjhodek::ffi::TLB_WORDS),
+        ("DCACHE_BYTES", rimjhodek::cache::Dcache::new().lines.len()),
+        ("DCACHE_LINE", rimjhodek::cache::DCACHE_LINE as usize),
+        ("ICACHE_BYTES", rimjhodek::cache::Icache::new().lines.len()),
+        ("ICACHE_LINE", rimjhodek::cache::ICACHE_LINE as usize),
+        ("CACHE_TAGS", rimjhodek::cache::Icache::new().tags.len()),
+        ("NAMED_REGISTERS", named_registers().len()),
+    ];
+    for (name, length) in lent {
+        assert_eq!(header[&format!("RIMJHODEK_{name}")], length as u64, "{name}");
+    }
 }

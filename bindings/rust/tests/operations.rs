@@ -4,7 +4,7 @@ use rimjhodek::addr::{self, Access, Cached, Mode, Physical, TranslateError};
 use rimjhodek::cache::{DCACHE_LINES, Dcache, ICACHE_LINES, Icache, Writeback};
 use rimjhodek::cop0::{Cop0, reg};
 use rimjhodek::exception::{self, Dispatch, EPILOGUE_STALL, Exception, VectorKind, exc_code};
-use rimjhodek::tlb::{JTLB_ENTRIES, PageEntry, Tlb, TlbFault, Translated};
+use rimjhodek::tlb::{JTLB_ENTRIES, PageEntry, Tlb, TlbFault, Translated, word};
 
 #[test]
 fn registers_are_moved() {
@@ -67,7 +67,7 @@ fn a_fresh_table() {
         assert_eq!(entry.vpn2, (0x7FF_FFFF - i as u64) << 13);
         assert_eq!((entry.lo0, entry.lo1), (PageEntry::default(), PageEntry::default()));
     }
-    assert_eq!(tlb.micro.itlb, [32, 32]);
+    assert_eq!(tlb.words[word::SLOT0..], [32, 32, 0, 0]);
     assert!(!tlb.is_shutdown());
 }
 
@@ -98,7 +98,7 @@ fn the_micro_tlb() {
     assert!(tlb.jtlb_has_match(0x1_2000, 7));
     tlb.itlb_fill(0x1_2000, 7);
     assert!(tlb.itlb_probe(0x1_2000, 7));
-    assert_eq!((tlb.micro.itlb, tlb.micro.itlb_lru), ([5, 32], 1));
+    assert_eq!(tlb.words[word::SLOT0..], [5, 32, 1, 0]);
 }
 
 #[test]

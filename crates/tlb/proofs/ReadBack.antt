@@ -19,16 +19,12 @@ use Rattle.tlb.specs.Moves.{globalOf, entryOf, loOf, hiOf, readEntryOf}
 use Rattle.tlb.specs.Sound.{Sound, SoundTable}
 use Rattle.tlb.specs.Words.{hiWord, loWord}
 use Rattle.tlb.proofs.WordLaws.{mask-kept, lo-joined, lo-kept, lo-g, lo-page}
-use Rattle.tlb.proofs.Sound.{sound-vpn2, entry-sound}
-use Rattle.tlb.proofs.Words.{word-is, word-kept, word-region, word-vpn2, word-asid}
+use Rattle.tlb.proofs.Sound.{entry-sound}
+use Rattle.tlb.proofs.Words.{word-is, word-kept, word-region, vpn2-back, word-asid}
 
 both : (g : Bool) → (g && g) ≡ g
 both true = refl
 both false = refl
-
--- the mask clears nothing more of VPN2
-vpn2-back : (e : Entry) → Sound e → vpn2Of (e .«page_mask») (hiWord e) ≡ e .vpn2
-vpn2-back e s = ap (cleared (e .«page_mask»)) (word-vpn2 e s ∙ sym (sound-vpn2 e s)) ∙ s .vpn2
 
 -- the four registers that a sound entry is read into
 module _ (e : Entry) (s : Sound e) (d : Cop0) (file : length (d .regs) ≡ 32) where

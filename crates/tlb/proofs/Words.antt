@@ -4,10 +4,11 @@ use Prim.Native.Nat.{ℕ, _+_, _*_, _%_, _^_, _<_}
 use native.Mathlib.Omega.{arith}
 use lib.Bits.{bitOr}
 use Rattle.bits.specs.Field.{fieldOf}
-use Rattle.bits.specs.Mask.{under}
+use Rattle.bits.specs.Mask.{under, cleared}
 use Rattle.bits.proofs.FieldLaws.{field-lt}
 use Rattle.cop0.specs.Registers.{EntryHi, archMask}
 use Rattle.tlb.specs.declared.entries.Entry.{Entry}
+use Rattle.tlb.specs.Entries.{vpn2Of}
 use Rattle.tlb.specs.Moves.{hiOf}
 use Rattle.tlb.specs.Sound.{Sound}
 use Rattle.tlb.specs.Words.{entryOfWords, hiWord, loWord}
@@ -38,14 +39,17 @@ module _ (e : Entry) (s : Sound e) where
   pub word-asid : fieldOf (hiWord e) 7 0 ≡ e .asid
   word-asid = hi-asid (e .region) w (e .asid) (s .region) w-lt (s .asid)
 
+  -- the mask clears nothing more of it
+  pub vpn2-back : vpn2Of (e .«page_mask») (hiWord e) ≡ e .vpn2
+  vpn2-back = ap (cleared (e .«page_mask»)) (word-vpn2 ∙ sym (sound-vpn2 e s)) ∙ s .vpn2
+
   pub words-back : entryOfWords (e .«page_mask») (hiWord e) (loWord (e .lo0) (e .global)) (loWord (e .lo1) (e .global)) ≡ e
-  unfolding entryOfWords
   words-back =
       let m : e .«page_mask» % 2 ^ 32 ≡ e .«page_mask» = omega (arith, sound-mask e s) in
       rw (
         m,
         word-region,
-        word-vpn2,
+        vpn2-back,
         word-asid,
         lo-g (e .lo0) (e .global) (s .lo0),
         lo-page (e .lo0) (e .global) (s .lo0),

@@ -6,14 +6,15 @@ use Rattle.bits.specs.Field.{fieldOf, bit}
 use Rattle.bits.specs.Extension.{low32Of}
 use Rattle.tlb.specs.declared.entries.PageEntry.{PageEntry}
 use Rattle.tlb.specs.declared.entries.Entry.{Entry}
+use Rattle.tlb.specs.Entries.{vpn2Of}
 use Rattle.tlb.specs.Moves.{pageOf}
 
--- EntryHi: R 63..62, VPN2 39..13 in place, ASID 7..0; G is EntryLo0's
-unfoldable pub entryOfWords : ℕ → ℕ → ℕ → ℕ → Entry
+-- EntryHi: R 63..62, VPN2 39..13 in place, of which bits under the mask mean nothing, ASID 7..0; G is EntryLo0's
+abbrev pub entryOfWords : ℕ → ℕ → ℕ → ℕ → Entry
 entryOfWords mask hi lo0 lo1 =
     record {
       «page_mask» = low32Of mask;
-      vpn2 = fieldOf hi 39 13 * 2 ^ 13;
+      vpn2 = vpn2Of (low32Of mask) hi;
       asid = fieldOf hi 7 0;
       global = eqb (fieldOf lo0 0 0) 1;
       region = fieldOf hi 63 62;

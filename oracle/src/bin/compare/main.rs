@@ -15,6 +15,7 @@ mod options;
 mod rng;
 mod rooms;
 mod sweeps;
+mod trace;
 mod translation;
 
 use std::env;

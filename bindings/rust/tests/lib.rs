@@ -1,0 +1,1 @@
+//! A package wants a library or a program; there are only tests here.

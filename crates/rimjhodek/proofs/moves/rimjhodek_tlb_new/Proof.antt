@@ -1,0 +1,73 @@
+-- The words are cleared, and then filled entry by entry.
+use mathlib.Core.Path.{_≡_, refl, ap, _∙_}
+use Prim.Native.Nat.{_≤_, _-_, _%_}
+use native.Mathlib.Numerals.{add-one}
+use native.Mathlib.Omega.{arith}
+use lib.ListN.{replicate}
+use Rattle.tlb.specs.Table.{freshEntry, entryAt}
+use Rattle.tlb.proofs.Freshly.{nth-fresh}
+use Rattle.rimjhodek.specs.Table.{freshEntries}
+use Rattle.rimjhodek.proofs.Entering.{put-fresh}
+use borrow.Author.Needs.{needs}
+use Rattle.rimjhodek.proofs.moves.rimjhodek_tlb_new.Statement.{statement}
+use Rattle.rimjhodek.proofs.moves.rimjhodek_tlb_new.Tie as tie
+
+abbrev Inv-loop : tie.InvT-loop
+Inv-loop tlb₀ fresh i₀ tlb i = (i ≤ 32) × (tlb ≡ freshEntries i (replicate 132 0))
+
+abbrev μ-loop : tie.MeasureT-loop
+μ-loop tlb₀ fresh i₀ tlb i = 32 - i
+
+new-requires : tie.Need-new-requires Inv-loop μ-loop
+new-requires c κs = search needs
+
+loop-holds : tie.Need-loop-holds Inv-loop μ-loop
+unfolding freshEntries
+loop-holds c = (omega arith, refl)
+
+entry-requires : tie.Need-entry-requires Inv-loop μ-loop
+entry-requires c κs = search needs
+
+put-entry-requires : tie.Need-put-entry-requires Inv-loop μ-loop
+put-entry-requires c κs = search needs
+
+add-i : tie.Need-add-i Inv-loop μ-loop
+add-i c = search needs
+
+loop-less : tie.Need-loop-less Inv-loop μ-loop
+loop-less c = search needs
+
+loop-again : tie.Need-loop-again Inv-loop μ-loop
+unfolding freshEntries
+loop-again c =
+    let b = c .before .before .before .before in
+    let i = b .loop .i in
+    let below = c .before .before .before .loop-test .taken in
+    let small : i % 32 ≡ i = omega arith in
+    let fresh-entry : entryAt (b .before .new .result) (i % 32) ≡ freshEntry i = rw (b .before .new .ensures, small) (nth-fresh 32 0 i below ∙ ap freshEntry (omega arith)) in
+    (omega arith, rw (add-one, c .put-entry .ensures, b .loop .inv .1, c .before .entry .ensures, fresh-entry))
+
+empty-requires : tie.Need-empty-requires Inv-loop μ-loop
+empty-requires c κs = search needs
+
+returns : tie.Need-returns Inv-loop μ-loop
+returns c =
+    let b = c .before .before .before in
+    let all : b .loop .i ≡ 32 = omega arith in
+    rw (c .empty .ensures, b .loop .inv .1, all) put-fresh
+
+pub rimjhodek-tlb-new-spec : {M : Type 1} → statement M
+rimjhodek-tlb-new-spec =
+    tie.close
+    (tie.spec
+    Inv-loop
+    μ-loop
+    new-requires
+    loop-holds
+    entry-requires
+    put-entry-requires
+    add-i
+    loop-less
+    loop-again
+    empty-requires
+    returns)

@@ -1,0 +1,68 @@
+-- By whether the register is special.
+use mathlib.Core.Path.{ap, sym, _∙_}
+use Prim.Native.Nat.{ℕ, _%_}
+use native.Mathlib.Omega.{arith}
+use Rattle.bits.specs.Extension.{low32Of, signExtended}
+use Rattle.rimjhodek.specs.Registers.{cop0In}
+use Rattle.rimjhodek.proofs.Reading.{read-special, read-plain}
+use borrow.Author.Needs.{needs}
+use Rattle.rimjhodek.proofs.registers.rimjhodek_mfc0.Statement.{statement}
+use Rattle.rimjhodek.proofs.registers.rimjhodek_mfc0.Tie as tie
+
+is-special-requires : tie.Need-is-special-requires
+is-special-requires c κs = search needs
+
+special-requires : tie.Need-special-requires
+special-requires c κs = search needs
+
+low32-requires : tie.Need-low32-requires
+low32-requires c κs = search needs
+
+sign-extend-requires : tie.Need-sign-extend-requires
+sign-extend-requires c κs = search needs
+
+returns : tie.Need-returns
+returns c =
+    let b = c .before .before .before .before in
+    rw (c .sign-extend .ensures, c .before .low32 .ensures, c .before .before .special .ensures, read-special (cop0In (b .before .args .cop0 .now)) (b .before .args .n % 32) (omega arith) (sym (b .is-special .ensures) ∙ c .before .before .before .if1 .taken))
+
+cast-i : tie.Need-cast-i
+cast-i c = search needs
+
+mul-low32 : tie.Need-mul-low32
+mul-low32 c = search needs
+
+element-copy-out-low32 : tie.Need-element-copy-out-low32
+element-copy-out-low32 c = search needs
+
+arch-mask-requires : tie.Need-arch-mask-requires
+arch-mask-requires c κs = search needs
+
+low32-requires-2 : tie.Need-low32-requires-2
+low32-requires-2 c κs = search needs
+
+sign-extend-requires-2 : tie.Need-sign-extend-requires-2
+sign-extend-requires-2 c κs = search needs
+
+returns-2 : tie.Need-returns-2
+returns-2 c =
+    let b = c .before .before .before .before .before in
+    rw (c .sign-extend2 .ensures, c .before .low322 .ensures, c .before .before .arch-mask .ensures)
+    (ap (λ (x : ℕ). signExtended (low32Of x)) (read-plain (b .before .args .cop0 .now) (b .before .args .n % 32) (omega arith) (sym (b .is-special .ensures) ∙ c .before .before .before .before .if1 .left)))
+
+pub rimjhodek-mfc0-spec : {M : Type 1} → statement M
+rimjhodek-mfc0-spec =
+    tie.close
+    (tie.spec
+    is-special-requires
+    special-requires
+    low32-requires
+    sign-extend-requires
+    returns
+    cast-i
+    mul-low32
+    element-copy-out-low32
+    arch-mask-requires
+    low32-requires-2
+    sign-extend-requires-2
+    returns-2)

@@ -1,0 +1,90 @@
+-- Four entries to a turn; what is held is what the entries before give.
+use mathlib.Core.Path.{_≡_}
+use Prim.Native.Nat.{_≤_, _+_, _-_, _%_}
+use native.Mathlib.Omega.{arith}
+use borrow.Author.Needs.{needs}
+use Rattle.rimjhodek.proofs.Scanning.{Held, begin, step, finish}
+use Rattle.rimjhodek.proofs.table.scan.Statement.{statement}
+use Rattle.rimjhodek.proofs.table.scan.Tie as tie
+
+abbrev Inv-loop : tie.InvT-loop
+Inv-loop tlb vaddr asid key found₀ i₀ found i = (i ≤ 32) × (i % 4 ≡ 0) × Held tlb vaddr asid i found
+
+abbrev μ-loop : tie.MeasureT-loop
+μ-loop tlb vaddr asid key found₀ i₀ found i = 32 - i
+
+key-of-requires : tie.Need-key-of-requires Inv-loop μ-loop
+key-of-requires c κs = search needs
+
+loop-holds : tie.Need-loop-holds Inv-loop μ-loop
+loop-holds c =
+    let a = c .before .args in
+    (omega arith, omega arith, begin (a .tlb .now) (a .vaddr) (a .asid))
+
+turn-requires : tie.Need-turn-requires Inv-loop μ-loop
+turn-requires c κs = search needs
+
+add-turn : tie.Need-add-turn Inv-loop μ-loop
+add-turn c = search needs
+
+turn-requires-2 : tie.Need-turn-requires-2 Inv-loop μ-loop
+turn-requires-2 c κs = search needs
+
+add-turn-2 : tie.Need-add-turn-2 Inv-loop μ-loop
+add-turn-2 c = search needs
+
+turn-requires-3 : tie.Need-turn-requires-3 Inv-loop μ-loop
+turn-requires-3 c κs = search needs
+
+add-turn-3 : tie.Need-add-turn-3 Inv-loop μ-loop
+add-turn-3 c = search needs
+
+turn-requires-4 : tie.Need-turn-requires-4 Inv-loop μ-loop
+turn-requires-4 c κs = search needs
+
+add-i : tie.Need-add-i Inv-loop μ-loop
+add-i c = search needs
+
+loop-less : tie.Need-loop-less Inv-loop μ-loop
+loop-less c = search needs
+
+loop-again : tie.Need-loop-again Inv-loop μ-loop
+loop-again c =
+    let t₁ = c .before .before .before in
+    let l = t₁ .before .before in
+    let a = l .before .before .args in
+    let k = l .before .key-of .ensures in
+    let i = l .loop .i in
+    let below = t₁ .before .loop-test .taken in
+    let z : i % 4 ≡ 0 = l .loop .inv .1 in
+    let one = step (a .tlb .now) (a .vaddr) (a .asid) (search needs) _ k in
+    let h₁ = one i (i + 1) _ _ below (omega arith) (t₁ .turn .ensures) (l .loop .inv .2) in
+    let h₂ = one (i + 1) (i + 2) _ _ (omega arith) (omega arith) (c .before .before .turn2 .ensures) h₁ in
+    let h₃ = one (i + 2) (i + 3) _ _ (omega arith) (omega arith) (c .before .turn3 .ensures) h₂ in
+    (omega arith, omega arith, one (i + 3) (i + 4) _ _ (omega arith) (omega arith) (c .turn4 .ensures) h₃)
+
+returns : tie.Need-returns Inv-loop μ-loop
+returns c =
+    let l = c .before in
+    let a = l .before .before .args in
+    finish (a .tlb .now) (a .vaddr) (a .asid) (l .loop .i) (l .loop .found) (c .loop-test .left) (l .loop .inv .2)
+
+pub scan-spec : {M : Type 1} → statement M
+scan-spec =
+    tie.close
+    (tie.spec
+    Inv-loop
+    μ-loop
+    key-of-requires
+    loop-holds
+    turn-requires
+    add-turn
+    turn-requires-2
+    add-turn-2
+    turn-requires-3
+    add-turn-3
+    turn-requires-4
+    add-i
+    loop-less
+    loop-again
+    returns)

@@ -1,0 +1,26 @@
+-- A translation as it crosses.
+use mathlib.Core.Bool.{Bool, cond, not}
+use Prim.Native.Nat.{ℕ, _+_}
+use Rattle.tlb.specs.declared.table.Tlb.{Tlb}
+use Rattle.addr.specs.declared.translate.TranslateAnswer.{TranslateAnswer}
+use Rattle.addr.specs.declared.translate.TranslateAnswer.the-variants.{At, Failed}
+use Rattle.addr.specs.Answers.{errorNumber}
+use Rattle.addr.specs.Translate.{translateAnswer, translateTable}
+use Rattle.rimjhodek.specs.declared.modes.By.{By}
+use Rattle.rimjhodek.specs.declared.table.Looked.{Looked}
+use Rattle.rimjhodek.specs.Numbered.{unknown}
+use Rattle.rimjhodek.specs.Modes.{isMode, accessIn, isCached}
+use Rattle.rimjhodek.specs.Table.{failed}
+
+-- error 0 is none; a failure is its number and 1
+abbrev pub translatedOf : TranslateAnswer → Looked
+translatedOf (At p) = record { error = 0; uncached = not (isCached (p .cached)); addr = p .addr }
+translatedOf (Failed e) = failed (1 + errorNumber e)
+
+-- a number that names no mode is refused, and changes nothing
+unfoldable pub viaAnswer : Tlb → ℕ → ℕ → Bool → By → Looked
+viaAnswer t v asid store a =
+    cond (isMode (a .mode)) (translatedOf (translateAnswer t v asid store (accessIn a))) (failed unknown)
+
+unfoldable pub viaTable : Tlb → ℕ → ℕ → By → Tlb
+viaTable t v asid a = cond (isMode (a .mode)) (translateTable t v asid (accessIn a)) t

@@ -1,0 +1,30 @@
+// What other languages link: each operation over state that the caller owns and lends as plain words.
+mod answers;
+mod clock;
+mod dcache;
+mod exceptions;
+mod icache;
+mod interrupts;
+mod masks;
+mod modes;
+mod moves;
+mod refusals;
+mod registers;
+mod sessions;
+mod table;
+mod translation;
+mod words;
+
+pub use answers::Eviction;
+pub use answers::Flag;
+pub use answers::Number;
+pub use answers::Plan;
+pub use dcache::DataLine;
+pub use dcache::DataPlan;
+pub use exceptions::Exc;
+pub use exceptions::Taken;
+pub use icache::InstructionLine;
+pub use modes::By;
+pub use modes::Granted;
+pub use modes::Reached;
+pub use table::Looked;
