@@ -11,12 +11,12 @@ use Rattle.cop0.proofs.Hardware.{only-none, only-set}
 use Rattle.tlb.specs.declared.table.Tlb.{Tlb}
 use Rattle.tlb.specs.Moves.{readEntryOf, probeOf}
 use Rattle.rimjhodek.specs.Registers.{cop0In, putIn, puttingBack}
-use Rattle.rimjhodek.proofs.PuttingBack.{Low, put-back, back-means, back-long}
+use Rattle.rimjhodek.proofs.PuttingBack.{Low, put-back}
 
 abbrev pub ofRead : List ℕ
 ofRead = PageMask ∷ EntryHi ∷ EntryLo0 ∷ EntryLo1 ∷ []
 
-only-read : (t : Tlb) (i : ℕ) (c : Cop0) → Only ofRead c (readEntryOf t i c)
+pub only-read : (t : Tlb) (i : ℕ) (c : Cop0) → Only ofRead c (readEntryOf t i c)
 unfolding readEntryOf among
 only-read t i c =
     only-set (only-set (only-set (only-set (only-none ofRead c) PageMask _ refl) EntryHi _ refl) EntryLo0 _ refl) EntryLo1 _ refl
@@ -24,7 +24,7 @@ only-read t i c =
 abbrev pub ofProbe : List ℕ
 ofProbe = Index ∷ []
 
-only-probed : (t : Tlb) (c : Cop0) → Only ofProbe c (probeOf t c)
+pub only-probed : (t : Tlb) (c : Cop0) → Only ofProbe c (probeOf t c)
 unfolding probeOf among
 only-probed t c = only-set (only-none ofProbe c) Index _ refl
 
@@ -42,20 +42,8 @@ module _ (ws : List ℕ) (long : length ws ≡ 38) (t : Tlb) where
     pub put-read : puttingBack ofRead (r .regs) ws ≡ putIn ws r
     put-read = put-back ofRead ws r long low-read (only-read t i (cop0In ws))
 
-    pub read-means : cop0In (putIn ws r) ≡ r
-    read-means = back-means ofRead ws r long low-read (only-read t i (cop0In ws))
-
-    pub read-long : length (putIn ws r) ≡ 38
-    read-long = back-long ofRead ws r long low-read (only-read t i (cop0In ws))
-
   abbrev p : Cop0
   p = probeOf t (cop0In ws)
 
   pub put-probed : puttingBack ofProbe (p .regs) ws ≡ putIn ws p
   put-probed = put-back ofProbe ws p long low-probe (only-probed t (cop0In ws))
-
-  pub probed-means : cop0In (putIn ws p) ≡ p
-  probed-means = back-means ofProbe ws p long low-probe (only-probed t (cop0In ws))
-
-  pub probed-long : length (putIn ws p) ≡ 38
-  probed-long = back-long ofProbe ws p long low-probe (only-probed t (cop0In ws))

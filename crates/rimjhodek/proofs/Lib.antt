@@ -11,6 +11,8 @@ pub mod Looking
 pub mod Entering
 pub mod Changing
 pub mod Tables
+pub mod Exact
+pub mod Stepping
 pub mod Segments
 pub mod Translating
 pub mod Touched
@@ -21,4 +23,6 @@ pub mod Fitting
 pub mod Pending
 pub mod Advancing
 pub mod Steps
+pub mod Beside
+pub mod Calls
 pub mod Rooms

@@ -71,9 +71,3 @@ module _ (ns ws : List ℕ) (d : Cop0) (l : length ws ≡ 38) (low : Low ns) (o 
   pub put-back : puttingBack ns (d .regs) ws ≡ putIn ws d
   put-back =
       done ws (puttingBack ns (d .regs) ws) d (long (d .regs) ns ws ∙ l) (rest-putting (d .regs) ns ws low) (means ns ws d low o)
-
-  pub back-means : cop0In (putIn ws d) ≡ d
-  back-means = ap (λ (vs : List ℕ). cop0In vs) (sym put-back) ∙ means ns ws d low o
-
-  pub back-long : length (putIn ws d) ≡ 38
-  back-long = ap (λ (vs : List ℕ). length vs) (sym put-back) ∙ long (d .regs) ns ws ∙ l

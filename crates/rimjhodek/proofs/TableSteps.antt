@@ -1,25 +1,24 @@
--- The exports of the TLB make a session: words that a caller lends mean a register file and a table. From the contract of an
--- operation's export, as the checker reads it, follows that the answer and the session that the words mean afterwards are the
--- session's own step.
-use mathlib.Core.Path.{_≡_, refl, sym, ap, ap₂, _∙_}
+-- The exports of the TLB make a session: from the contract of an operation's export, as the checker reads it, follows that the answer
+-- and the session that the words mean afterwards are the session's own step.
+use mathlib.Core.Path.{_≡_, refl, ap, _∙_}
 use mathlib.Core.Bool.{Bool, true, false, cond, not}
 use mathlib.Core.List.{List, [], _∷_}
-use Prim.Native.Nat.{ℕ, _-_}
+use Prim.Native.Nat.{ℕ, _-_, _%_}
 use lib.Dec.{eqb}
-use lib.ListN.{length}
+use native.Mathlib.Omega.{arith}
 use contract.Lifetimes as Lifetimes
 use borrow.Fn.World as World
 use Rattle.bits.specs.Field.{bit}
 use Rattle.bits.specs.Told.{Told, answered}
-use Rattle.cop0.specs.declared.registers.Cop0.{Cop0}
 use Rattle.tlb.specs.declared.entries.TlbFault.the-variants as fault
 use Rattle.tlb.specs.declared.entries.LookupAnswer.{LookupAnswer}
 use Rattle.tlb.specs.declared.entries.LookupAnswer.the-variants.{Found, Fault}
 use Rattle.tlb.specs.declared.table.Tlb.{Tlb}
 use Rattle.tlb.specs.Entries.{toldLookup}
-use Rattle.tlb.specs.Table.{freshTable}
 use Rattle.tlb.specs.Lookup.{lookupAnswer, lookupTable}
-use Rattle.tlb.specs.Micro.{probedOf, filledOf}
+use Rattle.tlb.specs.Micro.{probedOf}
+use Rattle.tlb.specs.Moves.{entryOf}
+use Rattle.tlb.proofs.Sound.{entry-sound}
 use Rattle.addr.specs.declared.segments.Cached.{Cached}
 use Rattle.addr.specs.declared.segments.Cached.the-variants.{Yes, No}
 use Rattle.addr.specs.declared.translate.TranslateError.the-variants as error
@@ -27,7 +26,7 @@ use Rattle.addr.specs.declared.translate.TranslateAnswer.{TranslateAnswer}
 use Rattle.addr.specs.declared.translate.TranslateAnswer.the-variants.{At, Failed}
 use Rattle.addr.specs.Answers.{toldTranslate}
 use Rattle.addr.specs.Translate.{translateAnswer, translateTable}
-use Rattle.session.specs.declared.session.Session.{Session}
+use Rattle.session.specs.declared.op.Op.{Op}
 use Rattle.session.specs.declared.op.Op.the-variants as op
 use Rattle.session.specs.Answers.{ofCase, done, number}
 use Rattle.session.specs.Step.{told, flag, stepOf}
@@ -36,11 +35,17 @@ use Rattle.rimjhodek.specs.declared.modes.By.{By}
 use Rattle.rimjhodek.specs.Registers.{cop0In}
 use Rattle.rimjhodek.specs.Numbered.{unknown}
 use Rattle.rimjhodek.specs.Modes.{isMode, accessIn}
-use Rattle.rimjhodek.specs.Table.{tableIn, putMicro, failed, lookedOf}
+use Rattle.rimjhodek.specs.Table.{tableIn, putMicro, putEntry, failed, lookedOf}
+use Rattle.rimjhodek.specs.Sessions.{Words, words, sessionIn, Whole}
 use Rattle.rimjhodek.specs.Translation.{translatedOf, viaAnswer, viaTable}
 use Rattle.rimjhodek.proofs.Slots.{at-home}
-use Rattle.rimjhodek.proofs.Tables.{Fits, in-put, long-put, looked-fits, translated-fits, probed-fits, filled-fits, in-written, long-written, in-fresh, long-fresh}
-use Rattle.rimjhodek.proofs.Changing.{read-means, read-long, probed-means, probed-long}
+use Rattle.rimjhodek.proofs.Meaning.{in-fits}
+use Rattle.rimjhodek.proofs.Entering.{put-long}
+use Rattle.rimjhodek.proofs.Tables.{Fits, looked-fits, translated-fits, probed-fits, filled-fits, written-fits}
+use Rattle.rimjhodek.proofs.Changing.{only-read, only-probed}
+use Rattle.rimjhodek.proofs.Fitting.{only-fits}
+use Rattle.rimjhodek.proofs.Exact.{exact-entry}
+use Rattle.rimjhodek.proofs.Stepping.{toldBool, Steps, unwritten, to-cop0, to-table}
 use Rattle.rimjhodek.proofs.table.rimjhodek_lookup as lookup
 use Rattle.rimjhodek.proofs.table.rimjhodek_lookup.Reads as lookup-reads
 use Rattle.rimjhodek.proofs.table.rimjhodek_jtlb_has_match as jtlb-has-match
@@ -51,8 +56,6 @@ use Rattle.rimjhodek.proofs.table.rimjhodek_itlb_fill as itlb-fill
 use Rattle.rimjhodek.proofs.table.rimjhodek_itlb_fill.Reads as itlb-fill-reads
 use Rattle.rimjhodek.proofs.table.rimjhodek_page_size.Reads as page-size-reads
 use Rattle.rimjhodek.proofs.table.rimjhodek_pair_size.Reads as pair-size-reads
-use Rattle.rimjhodek.proofs.moves.rimjhodek_tlb_new as tlb-new
-use Rattle.rimjhodek.proofs.moves.rimjhodek_tlb_new.Reads as tlb-new-reads
 use Rattle.rimjhodek.proofs.moves.rimjhodek_write_entry as write-entry
 use Rattle.rimjhodek.proofs.moves.rimjhodek_write_entry.Reads as write-entry-reads
 use Rattle.rimjhodek.proofs.moves.rimjhodek_read_entry as read-entry
@@ -61,10 +64,6 @@ use Rattle.rimjhodek.proofs.moves.rimjhodek_probe as probe
 use Rattle.rimjhodek.proofs.moves.rimjhodek_probe.Reads as probe-reads
 use Rattle.rimjhodek.proofs.translation.rimjhodek_translate_via as translate-via
 use Rattle.rimjhodek.proofs.translation.rimjhodek_translate_via.Reads as translate-via-reads
-
--- 38 words and 132 as a session
-abbrev pub sessionIn : List ℕ → List ℕ → Session
-sessionIn cs ts = record { cop0 = cop0In cs; tlb = tableIn ts }
 
 -- a lookup's answer as the session tells it
 abbrev pub toldLooked : Looked → Told
@@ -91,101 +90,74 @@ translated-told (Failed (error.Tlb fault.Refill)) = refl
 translated-told (Failed (error.Tlb fault.Invalid)) = refl
 translated-told (Failed (error.Tlb fault.Modified)) = refl
 
--- words into which a table was put that fits mean it, and are 132
-module _ (ws ws′ : List ℕ) (t : Tlb) (l : length ws ≡ 132) (f : Fits ws t) (e : ws′ ≡ putMicro ws t) where
-  means : tableIn ws′ ≡ t
-  means = ap (λ (vs : List ℕ). tableIn vs) e ∙ in-put ws t l f
+-- what needs no words
+pub page-size-steps : (a : ℕ × Unit {0}) (r : ℕ) (w : Words) → Whole w → page-size-reads.Post tt a r a → Steps (op.PageSize (a .0)) w (number r) w
+page-size-steps a r w h p = unwritten _ w h _ (ap (λ (x : ℕ). told (number x) (sessionIn w)) p)
 
-  long : length ws′ ≡ 132
-  long = ap (λ (vs : List ℕ). length vs) e ∙ long-put ws t l
+pub pair-size-steps : (a : ℕ × Unit {0}) (r : ℕ) (w : Words) → Whole w → pair-size-reads.Post tt a r a → Steps (op.PairSize (a .0)) w (number r) w
+pair-size-steps a r w h p = unwritten _ w h _ (ap (λ (x : ℕ). told (number x) (sessionIn w)) p)
 
--- fresh words mean the fresh table
-pub tlb-new-starts : (κs : Lifetimes.Lfts 1) (a : World.ArgsD tlb-new.signature κs) (r s : _)
-    → tlb-new-reads.Post κs a r s → (tableIn (s .0 .now) ≡ freshTable) × (length (s .0 .now) ≡ 132)
-tlb-new-starts κs a r s p = (ap (λ (vs : List ℕ). tableIn vs) p ∙ in-fresh, ap (λ (vs : List ℕ). length vs) p ∙ long-fresh)
-
-pub page-size-steps : (a : ℕ × Unit {0}) (r : ℕ) (s : Session) → page-size-reads.Post tt a r a → told (number r) s ≡ stepOf (op.PageSize (a .0)) s
-page-size-steps a r s p = ap (λ (x : ℕ). told (number x) s) p
-
-pub pair-size-steps : (a : ℕ × Unit {0}) (r : ℕ) (s : Session) → pair-size-reads.Post tt a r a → told (number r) s ≡ stepOf (op.PairSize (a .0)) s
-pair-size-steps a r s p = ap (λ (x : ℕ). told (number x) s) p
-
+-- what is read
 pub jtlb-has-match-steps : (κs : Lifetimes.Lfts 1) (a : World.ArgsD jtlb-has-match.signature κs) (r : Bool) (s : _) (cs : List ℕ)
-    → jtlb-has-match-reads.Post κs a r s
-    → flag r (sessionIn cs (a .0 .now)) ≡ stepOf (op.JtlbHasMatch (a .1 .0) (a .1 .1 .0)) (sessionIn cs (a .0 .now))
-jtlb-has-match-steps κs a r s cs p = ap (λ (x : Bool). flag x (sessionIn cs (a .0 .now))) p
+    → Whole (words cs (a .0 .now)) → jtlb-has-match-reads.Post κs a r s
+    → Steps (op.JtlbHasMatch (a .1 .0) (a .1 .1 .0)) (words cs (a .0 .now)) (toldBool r) (words cs (a .0 .now))
+jtlb-has-match-steps κs a r s cs h p = unwritten _ _ h _ (ap (λ (x : Bool). flag x (sessionIn (words cs (a .0 .now)))) p)
 
--- of 132 words
+-- a table whose entries stay
+module _ (o : Op) (cs ts : List ℕ) (h : Whole (words cs ts)) (a : Told) where
+  to-micro : (t : Tlb) → Fits ts t → told a (record { cop0 = cop0In cs; tlb = t }) ≡ stepOf o (sessionIn (words cs ts))
+      → (ts′ : List ℕ) → ts′ ≡ putMicro ts t → Steps o (words cs ts) a (words cs ts′)
+  to-micro = to-table o (words cs ts) h a ts (h .tlb) (λ x. x)
+
 pub lookup-steps : (κs : Lifetimes.Lfts 1) (a : World.ArgsD lookup.signature κs) (r : Looked) (s : _) (cs : List ℕ)
-    → length (a .0 .now) ≡ 132 → lookup-reads.Post κs a r s
-    → (told (ofCase 4 (toldLooked r)) (sessionIn cs (s .0 .now))
-    ≡ stepOf (op.Lookup (a .1 .0) (a .1 .1 .0) (a .1 .1 .1 .0)) (sessionIn cs (a .0 .now)))
-    × (length (s .0 .now) ≡ 132)
-lookup-steps κs a r s cs l p =
-    let ws = a .0 .now in
-    let f = looked-fits ws (a .1 .0) (a .1 .1 .0) in (
-      ap₂ (λ (x : Told) (t : Tlb). told (ofCase 4 x) (record { cop0 = cop0In cs; tlb = t }))
-          (ap toldLooked (p .0) ∙ looked-told (lookupAnswer (tableIn ws) (a .1 .0) (a .1 .1 .0) (a .1 .1 .1 .0)))
-          (means ws (s .0 .now) _ l f (p .1)),
-      long ws (s .0 .now) _ l f (p .1),
-    )
+    → Whole (words cs (a .0 .now)) → lookup-reads.Post κs a r s
+    → Steps (op.Lookup (a .1 .0) (a .1 .1 .0) (a .1 .1 .1 .0)) (words cs (a .0 .now)) (ofCase 4 (toldLooked r)) (words cs (s .0 .now))
+lookup-steps κs a r s cs h p =
+    let ts = a .0 .now in
+    to-micro _ cs ts h _ _ (looked-fits ts (a .1 .0) (a .1 .1 .0))
+    (ap (λ (x : Told). told (ofCase 4 x) (record { cop0 = cop0In cs; tlb = lookupTable (tableIn ts) (a .1 .0) (a .1 .1 .0) }))
+    (ap toldLooked (p .0) ∙ looked-told (lookupAnswer (tableIn ts) (a .1 .0) (a .1 .1 .0) (a .1 .1 .1 .0))))
+    (s .0 .now) (p .1)
 
 pub itlb-probe-steps : (κs : Lifetimes.Lfts 1) (a : World.ArgsD itlb-probe.signature κs) (r : Bool) (s : _) (cs : List ℕ)
-    → length (a .0 .now) ≡ 132 → itlb-probe-reads.Post κs a r s
-    → (flag r (sessionIn cs (s .0 .now)) ≡ stepOf (op.ItlbProbe (a .1 .0) (a .1 .1 .0)) (sessionIn cs (a .0 .now)))
-    × (length (s .0 .now) ≡ 132)
-itlb-probe-steps κs a r s cs l p =
-    let ws = a .0 .now in
-    let f = probed-fits ws (a .1 .0) (a .1 .1 .0) in (
-      ap₂ (λ (x : Bool) (t : Tlb). flag x (record { cop0 = cop0In cs; tlb = t })) (p .0) (means ws (s .0 .now) _ l f (p .1)),
-      long ws (s .0 .now) _ l f (p .1),
-    )
+    → Whole (words cs (a .0 .now)) → itlb-probe-reads.Post κs a r s
+    → Steps (op.ItlbProbe (a .1 .0) (a .1 .1 .0)) (words cs (a .0 .now)) (toldBool r) (words cs (s .0 .now))
+itlb-probe-steps κs a r s cs h p =
+    let ts = a .0 .now in
+    to-micro _ cs ts h _ _ (probed-fits ts (a .1 .0) (a .1 .1 .0))
+    (ap (λ (x : Bool). flag x (record { cop0 = cop0In cs; tlb = probedOf (tableIn ts) (a .1 .0) (a .1 .1 .0) .tlb })) (p .0))
+    (s .0 .now) (p .1)
 
 pub itlb-fill-steps : (κs : Lifetimes.Lfts 1) (a : World.ArgsD itlb-fill.signature κs) (r s : _) (cs : List ℕ)
-    → length (a .0 .now) ≡ 132 → itlb-fill-reads.Post κs a r s
-    → (told done (sessionIn cs (s .0 .now)) ≡ stepOf (op.ItlbFill (a .1 .0) (a .1 .1 .0)) (sessionIn cs (a .0 .now)))
-    × (length (s .0 .now) ≡ 132)
-itlb-fill-steps κs a r s cs l p =
-    let ws = a .0 .now in
-    let f = filled-fits ws (a .1 .0) (a .1 .1 .0) in (
-      ap (λ (t : Tlb). told done (record { cop0 = cop0In cs; tlb = t })) (means ws (s .0 .now) _ l f p),
-      long ws (s .0 .now) _ l f p,
-    )
+    → Whole (words cs (a .0 .now)) → itlb-fill-reads.Post κs a r s
+    → Steps (op.ItlbFill (a .1 .0) (a .1 .1 .0)) (words cs (a .0 .now)) done (words cs (s .0 .now))
+itlb-fill-steps κs a r s cs h p = to-micro _ cs (a .0 .now) h _ _ (filled-fits (a .0 .now) (a .1 .0) (a .1 .1 .0)) refl (s .0 .now) p
 
 -- an entry into the table
 pub write-entry-steps : (κs : Lifetimes.Lfts 2) (a : World.ArgsD write-entry.signature κs) (r s : _)
-    → length (a .0 .now) ≡ 132 → write-entry-reads.Post κs a r s
-    → (told done (sessionIn (a .1 .1 .0 .now) (s .0 .now)) ≡ stepOf (op.WriteEntry (a .1 .0)) (sessionIn (a .1 .1 .0 .now) (a .0 .now)))
-    × (length (s .0 .now) ≡ 132)
-write-entry-steps κs a r s l p =
-    let cs = a .1 .1 .0 .now in (
-      ap (λ (t : Tlb). told done (record { cop0 = cop0In cs; tlb = t }))
-          (ap (λ (vs : List ℕ). tableIn vs) p ∙ in-written (a .0 .now) l (a .1 .0) (cop0In cs)),
-      ap (λ (vs : List ℕ). length vs) p ∙ long-written (a .0 .now) l (a .1 .0) (cop0In cs),
-    )
+    → Whole (words (a .1 .1 .0 .now) (a .0 .now)) → write-entry-reads.Post κs a r s
+    → Steps (op.WriteEntry (a .1 .0)) (words (a .1 .1 .0 .now) (a .0 .now)) done (words (a .1 .1 .0 .now) (s .0 .now))
+write-entry-steps κs a r s h p =
+    let ts = a .0 .now in
+    let c = cop0In (a .1 .1 .0 .now) in
+    to-table _ _ h _ (putEntry ts (a .1 .0 % 32) (entryOf c)) (put-long ts (a .1 .0 % 32) (entryOf c) ∙ h .tlb)
+    (λ x. exact-entry ts (h .tlb) x (a .1 .0 % 32) (omega arith) (entryOf c) (entry-sound c))
+    _ (written-fits ts (h .tlb) (a .1 .0) c) refl (s .0 .now) p
 
 -- and out of it, into 38 words
 pub read-entry-steps : (κs : Lifetimes.Lfts 2) (a : World.ArgsD read-entry.signature κs) (r s : _)
-    → length (a .1 .1 .0 .now) ≡ 38 → read-entry-reads.Post κs a r s
-    → (told done (sessionIn (s .1 .1 .0 .now) (a .0 .now)) ≡ stepOf (op.ReadEntry (a .1 .0)) (sessionIn (a .1 .1 .0 .now) (a .0 .now)))
-    × (length (s .1 .1 .0 .now) ≡ 38)
-read-entry-steps κs a r s l p =
-    let t = tableIn (a .0 .now) in (
-      ap (λ (c : Cop0). told done (record { cop0 = c; tlb = t }))
-          (ap (λ (vs : List ℕ). cop0In vs) p ∙ read-means (a .1 .1 .0 .now) l t (a .1 .0)),
-      ap (λ (vs : List ℕ). length vs) p ∙ read-long (a .1 .1 .0 .now) l t (a .1 .0),
-    )
+    → Whole (words (a .1 .1 .0 .now) (a .0 .now)) → read-entry-reads.Post κs a r s
+    → Steps (op.ReadEntry (a .1 .0)) (words (a .1 .1 .0 .now) (a .0 .now)) done (words (s .1 .1 .0 .now) (a .0 .now))
+read-entry-steps κs a r s h p =
+    let cs = a .1 .1 .0 .now in
+    to-cop0 _ _ h _ _ (only-fits (in-fits cs (h .cop0)) (only-read (tableIn (a .0 .now)) (a .1 .0) (cop0In cs))) refl (s .1 .1 .0 .now) p
 
 pub probe-steps : (κs : Lifetimes.Lfts 2) (a : World.ArgsD probe.signature κs) (r s : _)
-    → length (a .1 .0 .now) ≡ 38 → probe-reads.Post κs a r s
-    → (told done (sessionIn (s .1 .0 .now) (a .0 .now)) ≡ stepOf op.Probe (sessionIn (a .1 .0 .now) (a .0 .now)))
-    × (length (s .1 .0 .now) ≡ 38)
-probe-steps κs a r s l p =
-    let t = tableIn (a .0 .now) in (
-      ap (λ (c : Cop0). told done (record { cop0 = c; tlb = t }))
-          (ap (λ (vs : List ℕ). cop0In vs) p ∙ probed-means (a .1 .0 .now) l t),
-      ap (λ (vs : List ℕ). length vs) p ∙ probed-long (a .1 .0 .now) l t,
-    )
+    → Whole (words (a .1 .0 .now) (a .0 .now)) → probe-reads.Post κs a r s
+    → Steps op.Probe (words (a .1 .0 .now) (a .0 .now)) done (words (s .1 .0 .now) (a .0 .now))
+probe-steps κs a r s h p =
+    let cs = a .1 .0 .now in
+    to-cop0 _ _ h _ _ (only-fits (in-fits cs (h .cop0)) (only-probed (tableIn (a .0 .now)) (cop0In cs))) refl (s .1 .0 .now) p
 
 -- a translation by a mode's number that names one
 module _ (ws : List ℕ) (v asid : ℕ) (store : Bool) (b : By) where
@@ -209,21 +181,17 @@ module _ (ws : List ℕ) (v asid : ℕ) (store : Bool) (b : By) where
   stays unnamed = ap (λ (x : Bool). cond x (translateTable t v asid (accessIn b)) t) unnamed
 
 pub translate-via-steps : (κs : Lifetimes.Lfts 1) (a : World.ArgsD translate-via.signature κs) (r : Looked) (s : _) (cs : List ℕ)
-    → length (a .0 .now) ≡ 132 → isMode (a .1 .1 .1 .1 .0 .mode) ≡ true → translate-via-reads.Post κs a r s
-    → (told (ofCase 5 (toldTranslated r)) (sessionIn cs (s .0 .now))
-    ≡ stepOf (op.TranslateVia (a .1 .0) (a .1 .1 .0) (a .1 .1 .1 .0) (accessIn (a .1 .1 .1 .1 .0))) (sessionIn cs (a .0 .now)))
-    × (length (s .0 .now) ≡ 132)
-translate-via-steps κs a r s cs l named p =
-    let ws = a .0 .now in
+    → Whole (words cs (a .0 .now)) → isMode (a .1 .1 .1 .1 .0 .mode) ≡ true → translate-via-reads.Post κs a r s
+    → Steps (op.TranslateVia (a .1 .0) (a .1 .1 .0) (a .1 .1 .1 .0) (accessIn (a .1 .1 .1 .1 .0))) (words cs (a .0 .now))
+    (ofCase 5 (toldTranslated r)) (words cs (s .0 .now))
+translate-via-steps κs a r s cs h named p =
+    let ts = a .0 .now in
     let b = a .1 .1 .1 .1 .0 in
-    let f = translated-fits ws (a .1 .0) (a .1 .1 .0) (accessIn b) in
-    let e = p .1 ∙ ap (putMicro ws) (leaves ws (a .1 .0) (a .1 .1 .0) (a .1 .1 .1 .0) b named) in (
-      ap₂ (λ (x : Told) (t : Tlb). told (ofCase 5 x) (record { cop0 = cop0In cs; tlb = t }))
-          (ap toldTranslated (p .0 ∙ answers ws (a .1 .0) (a .1 .1 .0) (a .1 .1 .1 .0) b named)
-          ∙ translated-told (translateAnswer (tableIn ws) (a .1 .0) (a .1 .1 .0) (a .1 .1 .1 .0) (accessIn b)))
-          (means ws (s .0 .now) _ l f e),
-      long ws (s .0 .now) _ l f e,
-    )
+    to-micro _ cs ts h _ _ (translated-fits ts (a .1 .0) (a .1 .1 .0) (accessIn b))
+    (ap (λ (x : Told). told (ofCase 5 x) (record { cop0 = cop0In cs; tlb = translateTable (tableIn ts) (a .1 .0) (a .1 .1 .0) (accessIn b) }))
+    (ap toldTranslated (p .0 ∙ answers ts (a .1 .0) (a .1 .1 .0) (a .1 .1 .1 .0) b named)
+    ∙ translated-told (translateAnswer (tableIn ts) (a .1 .0) (a .1 .1 .0) (a .1 .1 .1 .0) (accessIn b))))
+    (s .0 .now) (p .1 ∙ ap (putMicro ts) (leaves ts (a .1 .0) (a .1 .1 .0) (a .1 .1 .1 .0) b named))
 
 -- by one that names none it is refused, and no word changes
 pub translate-via-refused : (κs : Lifetimes.Lfts 1) (a : World.ArgsD translate-via.signature κs) (r : Looked) (s : _)

@@ -2,7 +2,7 @@
 use mathlib.Core.Path.{_≡_, refl, sym, ap, _∙_}
 use mathlib.Core.Bool.{Bool, true, false, cond}
 use mathlib.Core.List.{List, [], _∷_}
-use Prim.Native.Nat.{ℕ, zero, suc, _+_, _-_, _*_, _/_, _%_, _^_, _<_, _≤_}
+use Prim.Native.Nat.{ℕ, zero, suc, _+_, _-_, _*_, _%_, _^_, _<_, _≤_}
 use native.Mathlib.Omega.{arith}
 use lib.Dec.{eqb, ltb}
 use lib.ListN.{length, getD, set, replicate, length-set, length-replicate}
@@ -26,7 +26,7 @@ use Rattle.addr.specs.Translate.{segmentTable, translateTable}
 use Rattle.rimjhodek.specs.Registers.{over}
 use Rattle.rimjhodek.specs.Table.{entryIn, entriesIn, tableIn, putMicro, putEntry, freshEntries, freshWords}
 use Rattle.rimjhodek.proofs.Scanning.{entries-long, entry-at}
-use Rattle.rimjhodek.proofs.Entering.{put-long, put-table, fresh-long, fresh-at}
+use Rattle.rimjhodek.proofs.Entering.{put-table, fresh-long, fresh-at}
 
 -- the entries do not depend on what lies beside them
 beside : (ws : List ℕ) (n x : ℕ) → 128 ≤ n → entriesIn (set ws n x) ≡ entriesIn ws
@@ -205,7 +205,7 @@ module _ (ws : List ℕ) where
     abbrev after : List ℕ
     after = putEntry ws (i % 32) (entryOf c)
 
-    written-fits : Fits after (writtenOf u i c)
+    pub written-fits : Fits after (writtenOf u i c)
     unfolding writtenOf
     written-fits =
         record {
@@ -215,12 +215,6 @@ module _ (ws : List ℕ) where
           second = omega arith;
           next = omega arith;
         }
-
-    pub in-written : tableIn (putMicro after (writtenOf u i c)) ≡ writtenOf u i c
-    in-written = in-put after (writtenOf u i c) (put-long ws (i % 32) (entryOf c) ∙ long) written-fits
-
-    pub long-written : length (putMicro after (writtenOf u i c)) ≡ 132
-    long-written = long-put after (writtenOf u i c) (put-long ws (i % 32) (entryOf c) ∙ long)
 
 -- a fresh table
 abbrev filled : List ℕ

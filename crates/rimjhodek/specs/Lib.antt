@@ -5,3 +5,4 @@ pub mod Numbered
 pub mod Modes
 pub mod Exceptions
 pub mod Translation
+pub mod Sessions

@@ -47,6 +47,10 @@ putIn ws c =
 abbrev pub blank : List ℕ
 blank = replicate 38 0
 
+-- the words of a record: no bit is set that means nothing
+abbrev pub cop0Words : Cop0 → List ℕ
+cop0Words c = putIn blank c
+
 -- the registers that read something else than their own bits under a mask
 unfoldable pub isSpecial : ℕ → Bool
 isSpecial k = among (7 ∷ 9 ∷ 16 ∷ 21 ∷ 22 ∷ 23 ∷ 24 ∷ 25 ∷ 31 ∷ []) k

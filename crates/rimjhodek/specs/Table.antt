@@ -1,7 +1,7 @@
 -- The TLB as 132 words. Entry i is words 4i to 4i + 3: PageMask, EntryHi, EntryLo0 and EntryLo1 (figure 5-10). Words 128 and 129
 -- are the micro-TLB's slots, 130 its next slot, 131 whether the TLB is shut down.
 use mathlib.Core.Bool.{Bool, true, false, cond, _&&_, _||_}
-use mathlib.Core.List.{List, [], _∷_}
+use mathlib.Core.List.{List, [], _∷_, _++_}
 use Prim.Native.Nat.{ℕ, zero, suc, _+_, _*_, _/_, _%_, _^_}
 use lib.Dec.{eqb, ltb}
 use lib.ListN.{getD, set, replicate}
@@ -86,6 +86,20 @@ abbrev pub putEntry : List ℕ → ℕ → Entry → List ℕ
 putEntry ws i e =
     set (set (set (set ws (4 * i) (e .«page_mask»)) (4 * i + 1) (hiWord e)) (4 * i + 2) (loWord (e .lo0) (e .global)))
     (4 * i + 3) (loWord (e .lo1) (e .global))
+
+-- an entry's four words, and those of entries in a row
+abbrev pub entryWords : Entry → List ℕ
+entryWords e = e .«page_mask» ∷ hiWord e ∷ loWord (e .lo0) (e .global) ∷ loWord (e .lo1) (e .global) ∷ []
+
+unfoldable pub entriesWords : List Entry → List ℕ
+entriesWords [] = []
+entriesWords (e ∷ es) = entryWords e ++ entriesWords es
+
+-- the words of a table: no bit is set that means nothing
+unfoldable pub tableWords : Tlb → List ℕ
+tableWords t =
+    entriesWords (t .entries)
+    ++ (getD (t .itlb) 0 0 ∷ getD (t .itlb) 1 0 ∷ t .«itlb_lru» ∷ bit (t .shutdown) ∷ [])
 
 -- the slots empty
 abbrev pub emptied : List ℕ → List ℕ
