@@ -3,6 +3,7 @@ use mathlib.Core.Path.{_≡_, refl, sym, ap, _∙_}
 use mathlib.Core.Bool.{Bool, _&&_, not}
 use mathlib.Core.List.{List}
 use Prim.Native.Nat.{ℕ, _+_, _-_, _/_, _%_, _^_, _<_, _≤_}
+use native.Mathlib.Nat.{mod-eq-of-lt}
 use native.Mathlib.Omega.{arith}
 use lib.Dec.{eqb}
 use lib.Bits.{bitAnd, and-shr, and-mod}
@@ -63,6 +64,11 @@ module _ (w r n x y : ℕ) (ew : w ≡ fieldOf x 5 0) (er : r ≡ fieldOf y 5 0)
   pub cycled : (r + 64 - w) % 64 < n
       → (95 - (n - (r + 64 - w) % 64 - 1) % ((95 - w) % 64 + 1)) % 64 ≡ randomSteps (fieldOf x 5 0) n (fieldOf y 5 0)
   cycled h = rw (← ew, ← er) (sym (far w r n (omega arith) (omega arith) h))
+
+  -- the first time round
+  pub entered : (r + 64 - w) % 64 < n → n - (r + 64 - w) % 64 - 1 < (95 - w) % 64 + 1
+      → (95 - (n - (r + 64 - w) % 64 - 1)) % 64 ≡ randomSteps (fieldOf x 5 0) n (fieldOf y 5 0)
+  entered h l = ap (λ (k : ℕ). (95 - k) % 64) (sym (mod-eq-of-lt l)) ∙ cycled h
 
 module _ (ws : List ℕ) (long : length ws ≡ 38) where
   pub ip-set : (i : ℕ) (on : Bool) (x : ℕ) → x ≡ withFieldOf (getD ws 13 0) (8 + i % 8) (8 + i % 8) (bit on)

@@ -2,10 +2,10 @@
 use mathlib.Core.Path.{_≡_, refl, sym, ap, _∙_}
 use mathlib.Core.Bool.{Bool, true, false, cond, _||_}
 use mathlib.Core.List.{List}
-use Prim.Native.Nat.{ℕ, _%_, _^_, _<_}
+use Prim.Native.Nat.{ℕ, _%_, _<_}
 use native.Mathlib.Omega.{arith}
 use lib.Dec.{eqb}
-use lib.ListN.{length, getD, set, take, length-set}
+use lib.ListN.{length, getD, set, length-set}
 use lib.Seq.{getD-take, getD-set-other}
 use borrow.Author.Tests.{eq-eqb, ne-eqb}
 use Rattle.bits.specs.Field.{fieldOf, withFieldOf}
@@ -13,29 +13,29 @@ use Rattle.bits.specs.Mask.{merged}
 use Rattle.bits.specs.Extension.{low32Of}
 use Rattle.bits.proofs.Tables.{agree}
 use Rattle.cop0.specs.declared.registers.Cop0.{Cop0}
-use Rattle.cop0.specs.Registers.{Random, Wired, Count, Compare, Cause, among, writeMask}
-use Rattle.cop0.specs.Record.{reg, withReg, withEpoch, withLatch, withLastCount}
+use Rattle.cop0.specs.Registers.{Random, Wired, Count, Compare, among, writeMask}
+use Rattle.cop0.specs.Record.{withReg, withEpoch, withLastCount}
 use Rattle.cop0.specs.Interrupt.{setIpOf}
 use Rattle.cop0.specs.Clock.{countOf, asked}
 use Rattle.cop0.specs.File.{besides, writeAt}
 use Rattle.cop0.specs.Access.{dmtc0Of}
 use Rattle.rimjhodek.specs.Registers.{cop0In, putIn, isWatched}
-use Rattle.rimjhodek.proofs.Meaning.{Rest, home, done, again, in-reg, rest-reg, in-latch, rest-latch, with-low, in-last, rest-last, in-epoch, rest-epoch}
+use Rattle.rimjhodek.proofs.Meaning.{home, done, again, in-reg, rest-reg, in-latch, rest-latch, with-low, in-last, rest-last, in-epoch, rest-epoch}
 
 pub watched-bits : (k : ℕ) → k < 32 → eqb (fieldOf 0xA40 k k) 1 ≡ isWatched k
 unfolding isWatched among
 watched-bits = agree 32 (λ k. eqb (fieldOf 0xA40 k k) 1) isWatched refl
 
--- the rest are left alone
-unwatched : (k : ℕ) → k < 32 → isWatched k ≡ (eqb k Count || eqb k Compare || eqb k Wired)
+which : (k : ℕ) → k < 32 → isWatched k ≡ (eqb k Count || eqb k Compare || eqb k Wired)
 unfolding isWatched among
-unwatched = agree 32 isWatched (λ k. eqb k Count || eqb k Compare || eqb k Wired) refl
+which = agree 32 isWatched (λ k. eqb k Count || eqb k Compare || eqb k Wired) refl
 
+-- the rest are left alone
 alone : (c : Cop0) (k v : ℕ) → k < 32 → isWatched k ≡ false → besides k v c ≡ c
 unfolding besides
 alone c k v h w =
     go (eqb k Count) (eqb k Compare) (eqb k Wired) (asked (withEpoch c (low32Of v) (c .now))) (asked (setIpOf c 7 false)) (withReg c Random 31)
-    (sym (unwatched k h) ∙ w)
+    (sym (which k h) ∙ w)
   where
     go : (a b d : Bool) (x y z : Cop0) → (a || b || d) ≡ false → cond a x (cond b y (cond d z c)) ≡ c
     go false false false x y z e = refl
@@ -67,32 +67,29 @@ module _ (ws : List ℕ) (long : length ws ≡ 38) where
         rw (p, ne-eqb k Count e₁, eq-eqb k Compare e₂, in-reg ws 13 (withFieldOf (getD ws 13 0) 15 15 0) (omega arith), getD-take 32 ws 13 0 (omega arith))
         (again (rest-reg ws 13 _ (omega arith)) _)
 
-    pub to-wired : (k ≡ Count → ⊥) → (k ≡ Compare → ⊥) → k ≡ Wired → set ws 1 31 ≡ putIn ws (besides k v (cop0In ws))
+    pub to-wired : (k ≡ Count → ⊥) → (k ≡ Compare → ⊥) → k < 32 → isWatched k ≡ true → set ws 1 31 ≡ putIn ws (besides k v (cop0In ws))
     unfolding besides
-    to-wired e₁ e₂ e₃ =
-        rw (ne-eqb k Count e₁, ne-eqb k Compare e₂, eq-eqb k Wired e₃)
+    to-wired e₁ e₂ h w =
+        rw (ne-eqb k Count e₁, ne-eqb k Compare e₂, last)
         (done ws _ _ (length-set ws 1 31 ∙ long) (rest-reg ws 1 31 (omega arith)) (in-reg ws 1 31 (omega arith)))
+      where
+        last : eqb k Wired ≡ true
+        last = sym (rw (which k h, ne-eqb k Count e₁, ne-eqb k Compare e₂)) ∙ w
 
-    pub to-other : (k ≡ Count → ⊥) → (k ≡ Compare → ⊥) → (k ≡ Wired → ⊥) → ws ≡ putIn ws (besides k v (cop0In ws))
-    unfolding besides
-    to-other e₁ e₂ e₃ = rw (ne-eqb k Count e₁, ne-eqb k Compare e₂, ne-eqb k Wired e₃) (sym (home ws long))
+    pub to-other : k < 32 → isWatched k ≡ false → ws ≡ putIn ws (besides k v (cop0In ws))
+    to-other h w = rw (alone (cop0In ws) k v h w) (sym (home ws long))
 
-  -- the store, and then what it does besides
-  module _ (k v x : ℕ) (h : k < 32) (ex : x ≡ merged (writeMask k) v (getD ws k 0)) where
-    stored : cop0In (set ws k x) ≡ withReg (cop0In ws) k (merged (writeMask k) v (reg (cop0In ws) k))
-    stored = in-reg ws k x h ∙ rw (getD-take 32 ws k 0 h, ex)
+-- the store, and then what it does besides
+pub written : (ws : List ℕ) (k v : ℕ) → k < 32 → (ws′ : List ℕ) → ws′ ≡ set ws k (merged (writeMask k) v (getD ws k 0))
+    → putIn ws′ (besides k v (cop0In ws′)) ≡ putIn ws (writeAt (cop0In ws) k v)
+unfolding writeAt
+written ws k v h ws′ e =
+    rw (e, in-reg ws k (merged (writeMask k) v (getD ws k 0)) h, getD-take 32 ws k 0 h) (again (rest-reg ws k _ h) _)
 
-    pub written : putIn (set ws k x) (besides k v (cop0In (set ws k x))) ≡ putIn ws (writeAt (cop0In ws) k v)
-    unfolding writeAt
-    written = rw stored (again (rest-reg ws k x h) _)
-
-    pub plainly : isWatched k ≡ false → set ws k x ≡ putIn ws (writeAt (cop0In ws) k v)
-    unfolding writeAt
-    plainly w =
-        done ws _ _ (length-set ws k x ∙ long) (rest-reg ws k x h)
-        (stored ∙ sym (alone _ k v h w))
-
-  -- the latch first
-  pub moved : (n v : ℕ) → putIn (set ws 37 v) (writeAt (cop0In (set ws 37 v)) (n % 32) v) ≡ putIn ws (dmtc0Of (cop0In ws) n v)
-  unfolding dmtc0Of
-  moved n v = rw (in-latch ws v long) (again (rest-latch ws v long) _)
+-- the latch first
+pub moved : (ws : List ℕ) → length ws ≡ 38 → (n v : ℕ) (ws′ : List ℕ)
+    → ws′ ≡ set (set ws 37 v) (n % 32) (merged (writeMask (n % 32)) v (getD (set ws 37 v) (n % 32) 0))
+    → putIn ws′ (besides (n % 32) v (cop0In ws′)) ≡ putIn ws (dmtc0Of (cop0In ws) n v)
+unfolding dmtc0Of
+moved ws long n v ws′ e =
+    written (set ws 37 v) (n % 32) v (omega arith) ws′ e ∙ rw (in-latch ws v long) (again (rest-latch ws v long) _)

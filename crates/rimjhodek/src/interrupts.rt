@@ -57,7 +57,10 @@ fn stepped(wired: u64, random: u64, n: u64) -> u64
         return (cur + 64 - n) % 64;
     }
     let cycle = (95 - low) % 64 + 1;
-    // How far into the cycle, with the step to 31 as place 0.
-    let into = (n - d - 1) % cycle;
-    (95 - into) % 64
+    // How far past the walk, with the step to 31 as place 0 of the cycle. Few steps need no division.
+    let past = n - d - 1;
+    if past < cycle {
+        return (95 - past) % 64;
+    }
+    (95 - past % cycle) % 64
 }

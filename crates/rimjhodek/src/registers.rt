@@ -1,8 +1,10 @@
 // The register file as 38 words: 32 registers, now, the epoch's value and tick, the last-asked Count, EC, the latch.
 ghost use mathlib.Core.Path.{_≡_};
 ghost use Prim.Native.Nat.{_<_, _%_};
+ghost use lib.ListN.{getD, set};
 ghost use Rattle.bits.specs.Extension.{low32Of};
-ghost use Rattle.cop0.specs.Registers.{named, unused, wide};
+ghost use Rattle.bits.specs.Mask.{merged};
+ghost use Rattle.cop0.specs.Registers.{named, unused, wide, writeMask};
 ghost use Rattle.cop0.specs.Record.{fresh};
 ghost use Rattle.cop0.specs.Clock.{countAt, countOf, asked};
 ghost use Rattle.cop0.specs.File.{besides, writeOf, setHardwareOf};
@@ -99,7 +101,8 @@ pub extern "C" fn rimjhodek_dmtc0(cop0: &mut [u64; 38], n: u32, value: u64)
 {
     sized(*cop0);
     cop0[37] = value;
-    rimjhodek_write(cop0, n, value);
+    store(cop0, n % 32, value);
+    settle(cop0, n % 32, value);
 }
 
 // `MTC0 rd, rt`.
@@ -110,22 +113,29 @@ pub extern "C" fn rimjhodek_mtc0(cop0: &mut [u64; 38], n: u32, value: u64)
     sized(*cop0);
     let moved = moved_32(n, value);
     cop0[37] = moved;
-    rimjhodek_write(cop0, n, moved);
+    store(cop0, n % 32, moved);
+    settle(cop0, n % 32, moved);
 }
 
-// The bits under the register's write mask, and for three registers more.
+// The bits under the register's write mask, and for three registers more. MTC0 and DMTC0 take the same two steps themselves: a
+// function of both is too large to be compiled into them.
 #[no_mangle]
 pub extern "C" fn rimjhodek_write(cop0: &mut [u64; 38], n: u32, value: u64)
     ensures { λ _. ⌜ now (cop0 .exit) ≡ putIn (now (cop0 .entry)) (writeOf (cop0In (now (cop0 .entry))) n value) ⌝ }
 {
-    sized(*cop0);
     let k = n % 32;
+    store(cop0, k, value);
+    settle(cop0, k, value);
+}
+
+// The bits under the register's write mask.
+fn store(cop0: &mut [u64; 38], k: u32, value: u64)
+    requires { ⌜ k < 32 ⌝ }
+    ensures { λ _. ⌜ now (cop0 .exit) ≡ set (now (cop0 .entry)) k (merged (writeMask k) value (getD (now (cop0 .entry)) k 0)) ⌝ }
+{
     let i = k as usize;
     let x = bits::merge(masks::write_mask(k), value, cop0[i]);
     cop0[i] = x;
-    if is_watched(k) {
-        settle(cop0, k, value);
-    }
 }
 
 // A write past the write mask, for what the hardware owns.
@@ -150,9 +160,13 @@ fn is_watched(k: u32) -> bool
 
 // What a write to Count, Compare or Wired does besides.
 fn settle(cop0: &mut [u64; 38], k: u32, value: u64)
+    requires { ⌜ k < 32 ⌝ }
     ensures { λ _. ⌜ now (cop0 .exit) ≡ putIn (now (cop0 .entry)) (besides k value (cop0In (now (cop0 .entry)))) ⌝ }
 {
     sized(*cop0);
+    if !is_watched(k) {
+        return;
+    }
     if k == 9 {
         cop0[33] = bits::with_field(cop0[33], 31, 0, value);
         cop0[34] = cop0[32];
@@ -164,9 +178,7 @@ fn settle(cop0: &mut [u64; 38], k: u32, value: u64)
         ask(cop0);
         return;
     }
-    if k == 6 {
-        cop0[1] = 31;
-    }
+    cop0[1] = 31;
 }
 
 // The last-asked mark moves to the present Count.

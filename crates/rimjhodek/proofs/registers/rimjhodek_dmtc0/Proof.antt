@@ -11,14 +11,19 @@ sized-requires c κs = search needs
 element-write-cop0 : tie.Need-element-write-cop0
 element-write-cop0 c = search needs
 
-rimjhodek-write-requires : tie.Need-rimjhodek-write-requires
-rimjhodek-write-requires c κs = search needs
+store-requires : tie.Need-store-requires
+store-requires c κs = search needs
+
+settle-requires : tie.Need-settle-requires
+settle-requires c κs = search needs
 
 returns : tie.Need-returns
 returns c =
-    let z = c .before .before in
+    let s = c .before .before in
+    let z = s .before .before in
     let a = z .before .before .args in
-    c .rimjhodek-write .ensures ∙ moved (a .cop0 .now) (z .sized .ensures) (a .n) (a .value)
+    c .settle .ensures ∙ moved (a .cop0 .now) (z .sized .ensures) (a .n) (a .value) _ (s .store .ensures)
 
 pub rimjhodek-dmtc0-spec : {M : Type 1} → statement M
-rimjhodek-dmtc0-spec = tie.close (tie.spec sized-requires element-write-cop0 rimjhodek-write-requires returns)
+rimjhodek-dmtc0-spec =
+    tie.close (tie.spec sized-requires element-write-cop0 store-requires settle-requires returns)

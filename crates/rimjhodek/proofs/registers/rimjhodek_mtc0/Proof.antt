@@ -14,16 +14,27 @@ moved-32-requires c κs = search needs
 element-write-cop0 : tie.Need-element-write-cop0
 element-write-cop0 c = search needs
 
-rimjhodek-write-requires : tie.Need-rimjhodek-write-requires
-rimjhodek-write-requires c κs = search needs
+store-requires : tie.Need-store-requires
+store-requires c κs = search needs
+
+settle-requires : tie.Need-settle-requires
+settle-requires c κs = search needs
 
 returns : tie.Need-returns
 returns c =
-    let m = c .before .before in
+    let s = c .before .before in
+    let m = s .before .before in
     let z = m .before in
     let a = z .before .before .args in
-    c .rimjhodek-write .ensures ∙ moved (a .cop0 .now) (z .sized .ensures) (a .n) _ ∙ rw (m .moved-32 .ensures)
+    c .settle .ensures ∙ moved (a .cop0 .now) (z .sized .ensures) (a .n) _ _ (s .store .ensures) ∙ rw (m .moved-32 .ensures)
 
 pub rimjhodek-mtc0-spec : {M : Type 1} → statement M
 rimjhodek-mtc0-spec =
-    tie.close (tie.spec sized-requires moved-32-requires element-write-cop0 rimjhodek-write-requires returns)
+    tie.close
+    (tie.spec
+    sized-requires
+    moved-32-requires
+    element-write-cop0
+    store-requires
+    settle-requires
+    returns)
