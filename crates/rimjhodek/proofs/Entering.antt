@@ -1,7 +1,7 @@
 -- Entries put into words: what was put is what the words mean, and nothing else is touched.
-use mathlib.Core.Path.{_≡_, refl, sym, ap, _∙_}
+use mathlib.Core.Path.{_≡_, refl, sym, _∙_}
 use mathlib.Core.List.{List}
-use Prim.Native.Nat.{ℕ, zero, suc, _+_, _*_, _%_, _^_, _<_, _≤_}
+use Prim.Native.Nat.{ℕ, zero, suc, _+_, _-_, _*_, _%_, _<_, _≤_}
 use native.Mathlib.Omega.{arith}
 use native.Mathlib.Decide.{ℕ-discrete}
 use lib.ListN.{length, getD, set, replicate, length-set}
@@ -96,6 +96,9 @@ module _ (ws : List ℕ) (i : ℕ) (e : Entry) where
         go k q (no p) = put-other k p ∙ sym (getD-set-other (entriesIn ws) i k e (withVpn2 0) p ∙ entry-at ws k q)
 
 -- fresh entries
+pub hi-fresh : (i : ℕ) → i < 32 → hiWord (freshEntry i) ≡ (0x7FF_FFFF - i) * 8192
+hi-fresh i h = omega arith
+
 module _ (ws : List ℕ) where
   pub fresh-beside : (n k : ℕ) → n ≤ 32 → 128 ≤ k → getD (freshEntries n ws) k 0 ≡ getD ws k 0
   unfolding freshEntries
@@ -131,9 +134,9 @@ put-written ws i c =
     (rw (past 130 (omega arith))) (rw (past 131 (omega arith)))
 
 -- and all fresh ones
-pub put-fresh : emptied (freshEntries 32 (replicate 132 0)) ≡ freshWords
+pub all-fresh : emptied (freshEntries 32 (replicate 132 0)) ≡ freshWords
 unfolding freshWords
-put-fresh =
+all-fresh =
     to-empty (freshEntries 32 (replicate 132 0)) freshTable refl
     (rw (fresh-beside (replicate 132 0) 32 130 (omega arith) (omega arith)))
     (rw (fresh-beside (replicate 132 0) 32 131 (omega arith) (omega arith)))

@@ -1,6 +1,7 @@
 // Entries between the TLB's words and the registers': TLBWI and TLBWR, TLBR, TLBP.
 ghost use mathlib.Core.Path.{_≡_};
 ghost use Prim.Native.Nat.{_<_, _%_};
+ghost use Rattle.tlb.specs.Table.{freshEntry};
 ghost use Rattle.tlb.specs.Moves.{entryOf, writtenOf, readEntryOf, probeOf, pageOf};
 ghost use Rattle.tlb.specs.Words.{hiWord, loWord};
 ghost use Rattle.rimjhodek.specs.Registers.{cop0In, putIn};
@@ -13,18 +14,29 @@ use tlb::Entry;
 use tlb::PageEntry;
 use tlb::Tlb;
 
-// A fresh table.
+// A fresh table, in place: one that is built first takes as much stack. Whatever was lent is overwritten whole.
 #[no_mangle]
 pub extern "C" fn rimjhodek_tlb_new(tlb: &mut [u64; 132])
     ensures { λ _. ⌜ now (tlb .exit) ≡ freshWords ⌝ }
 {
     let blank = [0; 132];
     *tlb = blank;
-    let fresh = Tlb::new();
     for i in 0..32 {
-        put_entry(tlb, i, fresh.entry(i));
+        put_fresh(tlb, i);
     }
     empty(tlb);
+}
+
+// The four words of a fresh entry: its VPN2 is its own, so that no two match one address, and all else is 0.
+fn put_fresh(tlb: &mut [u64; 132], i: usize)
+    requires { ⌜ i < 32 ⌝ }
+    ensures { λ _. ⌜ now (tlb .exit) ≡ putEntry (now (tlb .entry)) i (freshEntry i) ⌝ }
+{
+    let at = 4 * i;
+    tlb[at] = 0;
+    tlb[at + 1] = (0x7FF_FFFF - i as u64) * 8192;
+    tlb[at + 2] = 0;
+    tlb[at + 3] = 0;
 }
 
 // `TLBWI`, `TLBWR`: the registers' entry goes into one place.

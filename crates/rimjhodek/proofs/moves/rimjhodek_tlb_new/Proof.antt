@@ -1,35 +1,27 @@
 -- The words are cleared, and then filled entry by entry.
-use mathlib.Core.Path.{_≡_, refl, ap, _∙_}
-use Prim.Native.Nat.{_≤_, _-_, _%_}
+use mathlib.Core.Path.{_≡_, refl}
+use Prim.Native.Nat.{_≤_, _-_}
 use native.Mathlib.Numerals.{add-one}
 use native.Mathlib.Omega.{arith}
 use lib.ListN.{replicate}
-use Rattle.tlb.specs.Table.{freshEntry, entryAt}
-use Rattle.tlb.proofs.Freshly.{nth-fresh}
 use Rattle.rimjhodek.specs.Table.{freshEntries}
-use Rattle.rimjhodek.proofs.Entering.{put-fresh}
+use Rattle.rimjhodek.proofs.Entering.{all-fresh}
 use borrow.Author.Needs.{needs}
 use Rattle.rimjhodek.proofs.moves.rimjhodek_tlb_new.Statement.{statement}
 use Rattle.rimjhodek.proofs.moves.rimjhodek_tlb_new.Tie as tie
 
 abbrev Inv-loop : tie.InvT-loop
-Inv-loop tlb₀ fresh i₀ tlb i = (i ≤ 32) × (tlb ≡ freshEntries i (replicate 132 0))
+Inv-loop tlb₀ i₀ tlb i = (i ≤ 32) × (tlb ≡ freshEntries i (replicate 132 0))
 
 abbrev μ-loop : tie.MeasureT-loop
-μ-loop tlb₀ fresh i₀ tlb i = 32 - i
-
-new-requires : tie.Need-new-requires Inv-loop μ-loop
-new-requires c κs = search needs
+μ-loop tlb₀ i₀ tlb i = 32 - i
 
 loop-holds : tie.Need-loop-holds Inv-loop μ-loop
 unfolding freshEntries
 loop-holds c = (omega arith, refl)
 
-entry-requires : tie.Need-entry-requires Inv-loop μ-loop
-entry-requires c κs = search needs
-
-put-entry-requires : tie.Need-put-entry-requires Inv-loop μ-loop
-put-entry-requires c κs = search needs
+put-fresh-requires : tie.Need-put-fresh-requires Inv-loop μ-loop
+put-fresh-requires c κs = search needs
 
 add-i : tie.Need-add-i Inv-loop μ-loop
 add-i c = search needs
@@ -40,12 +32,8 @@ loop-less c = search needs
 loop-again : tie.Need-loop-again Inv-loop μ-loop
 unfolding freshEntries
 loop-again c =
-    let b = c .before .before .before .before in
-    let i = b .loop .i in
-    let below = c .before .before .before .loop-test .taken in
-    let small : i % 32 ≡ i = omega arith in
-    let fresh-entry : entryAt (b .before .new .result) (i % 32) ≡ freshEntry i = rw (b .before .new .ensures, small) (nth-fresh 32 0 i below ∙ ap freshEntry (omega arith)) in
-    (omega arith, rw (add-one, c .put-entry .ensures, b .loop .inv .1, c .before .entry .ensures, fresh-entry))
+    let b = c .before .before .before in
+    (omega arith, rw (add-one, c .put-fresh .ensures, b .loop .inv .1))
 
 empty-requires : tie.Need-empty-requires Inv-loop μ-loop
 empty-requires c κs = search needs
@@ -54,7 +42,7 @@ returns : tie.Need-returns Inv-loop μ-loop
 returns c =
     let b = c .before .before .before in
     let all : b .loop .i ≡ 32 = omega arith in
-    rw (c .empty .ensures, b .loop .inv .1, all) put-fresh
+    rw (c .empty .ensures, b .loop .inv .1, all) all-fresh
 
 pub rimjhodek-tlb-new-spec : {M : Type 1} → statement M
 rimjhodek-tlb-new-spec =
@@ -62,10 +50,8 @@ rimjhodek-tlb-new-spec =
     (tie.spec
     Inv-loop
     μ-loop
-    new-requires
     loop-holds
-    entry-requires
-    put-entry-requires
+    put-fresh-requires
     add-i
     loop-less
     loop-again
