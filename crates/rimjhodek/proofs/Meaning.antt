@@ -1,7 +1,7 @@
 -- Words and the record that they mean: each store of a word is one step of the record.
 use mathlib.Core.Path.{_≡_, refl, sym, ap, subst, _∙_}
 use mathlib.Core.List.{List, [], _∷_, _++_}
-use Prim.Native.Nat.{ℕ, zero, suc, _+_, _*_, _/_, _%_, _^_, _<_, _≤_}
+use Prim.Native.Nat.{ℕ, _+_, _/_, _%_, _^_, _<_}
 use native.Mathlib.Omega.{arith}
 use lib.ListN.{length, getD, set, take, drop, take-append-drop, length-set, length-append, drop-of-length-le}
 use lib.Seq.{drop-cons, take-at, take-set-lt, take-set-le, length-take-le, getD-append-add, getD-set-same, getD-set-other}
@@ -201,35 +201,6 @@ module _ (ws : List ℕ) (x t : ℕ) (long : length ws ≡ 38) where
         last = rw (getD-set-other half 34 35 t 0 (λ q. omega (arith, q)), getD-set-other ws 33 35 first 0 (λ q. omega (arith, q)));
         ec = rw (getD-set-other half 34 36 t 0 (λ q. omega (arith, q)), getD-set-other ws 33 36 first 0 (λ q. omega (arith, q)));
       }
-
--- the words from i on, one by one
-unfoldable pub firsts : ℕ → ℕ → List ℕ → List ℕ
-firsts zero i ws = []
-firsts (suc n) i ws = getD ws i 0 ∷ firsts n (suc i) ws
-
-firsts-are : (n i : ℕ) (ws : List ℕ) → i + n ≤ length ws → firsts n i ws ≡ take n (drop i ws)
-unfolding firsts
-firsts-are zero i ws h = refl
-firsts-are (suc n) i ws h =
-    rw (drop-cons ws i 0 (omega arith)) (ap (λ (l : List ℕ). getD ws i 0 ∷ l) (firsts-are n (suc i) ws (omega arith)))
-
--- so that the registers are the first 32
-pub registers-are : (ws : List ℕ) → length ws ≡ 38 → firsts 32 0 ws ≡ take 32 ws
-registers-are ws long = firsts-are 32 0 ws (omega arith)
-
--- a record made of words is the one that they mean
-pub means : (ws : List ℕ) → length ws ≡ 38 → (value last : ℕ) → value ≡ low32Of (getD ws 33 0) → last ≡ low32Of (getD ws 35 0)
-    → record {
-      regs = firsts 32 0 ws;
-      now = getD ws 32 0;
-      «count_epoch_value» = value;
-      «count_epoch_tick» = getD ws 34 0;
-      «last_count» = last;
-      ec = getD ws 36 0 % 2 ^ 8;
-      «write_latch» = getD ws 37 0;
-    }
-    ≡ cop0In ws
-means ws long value last p q = rw (p, q, registers-are ws long)
 
 -- a record whose fields fit the bits that mean them
 pub record Fits (c : Cop0) : Type 0 where

@@ -5,45 +5,16 @@ ghost use lib.ListN.{length};
 ghost use Rattle.rimjhodek.specs.Registers.{cop0In};
 use cop0::Cop0;
 
-// The record of 38 words. Bits that a field does not have mean nothing.
+// The record of 38 words. Bits that a field does not have mean nothing. Nothing is copied where it is taken apart again.
 pub(crate) fn cop0_in(words: [u64; 38]) -> Cop0
     ensures { λ r. ⌜ r ≡ cop0In words ⌝ }
 {
+    let mut regs = [0u64; 32];
+    for i in 0..32 {
+        regs[i] = words[i];
+    }
     Cop0 {
-        regs: [
-            words[0],
-            words[1],
-            words[2],
-            words[3],
-            words[4],
-            words[5],
-            words[6],
-            words[7],
-            words[8],
-            words[9],
-            words[10],
-            words[11],
-            words[12],
-            words[13],
-            words[14],
-            words[15],
-            words[16],
-            words[17],
-            words[18],
-            words[19],
-            words[20],
-            words[21],
-            words[22],
-            words[23],
-            words[24],
-            words[25],
-            words[26],
-            words[27],
-            words[28],
-            words[29],
-            words[30],
-            words[31],
-        ],
+        regs,
         now: words[32],
         count_epoch_value: bits::low32(words[33]),
         count_epoch_tick: words[34],
