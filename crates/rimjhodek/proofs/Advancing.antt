@@ -22,7 +22,7 @@ use Rattle.cop0.specs.Advance.{raisedIf, advanceTold, advanceOf}
 use Rattle.cop0.proofs.Timer.{advances}
 use Rattle.rimjhodek.specs.declared.answers.Flag.{Flag}
 use Rattle.rimjhodek.specs.Answers.{flagOf}
-use Rattle.rimjhodek.specs.Registers.{cop0In, putIn, reached}
+use Rattle.rimjhodek.specs.Registers.{cop0In, putIn, comesToCompare}
 use Rattle.rimjhodek.proofs.Meaning.{Holds, in-fits, in-now, rest-now, onto, held}
 use Rattle.rimjhodek.proofs.Fitting.{now-fits, random-fits, asked-fits}
 
@@ -35,14 +35,15 @@ one-test w d t hw ht e = go (decLe 1 d) (decLe d t)
     go (yes p) (no q) = rw (le-leb 1 d p, lt-leb d t (omega arith), le-ltb w t (omega arith))
     go (no p) q = rw (lt-leb 1 d (omega arith), le-ltb w t (omega arith))
 
-pub reaches : (w d t n k l : ℕ) → w < 2 ^ 32 → t < 2 ^ 32 → (w + 1) % 2 ^ 32 ≡ d → d ≡ less 32 k l → t ≡ less 32 n l → ltb w t ≡ reached n k l
-unfolding reached
+pub reaches : (w d t n k l : ℕ) → w < 2 ^ 32 → t < 2 ^ 32 → (w + 1) % 2 ^ 32 ≡ d → d ≡ less 32 k l → t ≡ less 32 n l
+    → ltb w t ≡ comesToCompare n k l
+unfolding comesToCompare
 reaches w d t n k l hw ht e ed et = rw (← ed, ← et) (one-test w d t hw ht e)
 
 -- the timer's question, of the three numbers that the code has read
 pub edge-is : (ws : List ℕ) (n k l : ℕ) → n ≡ low32Of (countOf (cop0In ws)) → k ≡ low32Of (getD ws 11 0) → l ≡ low32Of (getD ws 35 0)
-    → reached n k l ≡ edgeOf (cop0In ws)
-unfolding reached edgeOf
+    → comesToCompare n k l ≡ edgeOf (cop0In ws)
+unfolding comesToCompare edgeOf
 edge-is ws n k l en ek el =
     let same : low32Of (countOf (cop0In ws)) ≡ countOf (cop0In ws) = omega arith in
     rw (en, ek, el, same, getD-take 32 ws 11 0 (omega arith))

@@ -64,8 +64,8 @@ unfoldable pub isWatched : ℕ → Bool
 isWatched k = among (6 ∷ 9 ∷ 11 ∷ []) k
 
 -- Count came to Compare from the last-asked Count on
-unfoldable pub reached : ℕ → ℕ → ℕ → Bool
-reached count compare last =
+unfoldable pub comesToCompare : ℕ → ℕ → ℕ → Bool
+comesToCompare count compare last =
     leb 1 (less 32 compare last) && leb (less 32 compare last) (less 32 count last)
 
 -- where a number stands in a list, counted from 0

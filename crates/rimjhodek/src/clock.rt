@@ -3,7 +3,7 @@ ghost use mathlib.Core.Path.{_≡_};
 ghost use Rattle.cop0.specs.Clock.{countOf, timerMatchesOf, edgeOf, asked, ticksUntilMatchOf};
 ghost use Rattle.cop0.specs.Advance.{advanceTold, advanceOf};
 ghost use Rattle.rimjhodek.specs.Answers.{flagOf};
-ghost use Rattle.rimjhodek.specs.Registers.{cop0In, putIn, reached};
+ghost use Rattle.rimjhodek.specs.Registers.{cop0In, putIn, comesToCompare};
 use crate::answers::Flag;
 use crate::interrupts;
 use crate::registers;
@@ -49,7 +49,7 @@ pub extern "C" fn rimjhodek_timer_edge(cop0: &mut [u64; 38]) -> bool
 // Does Compare lie after the last-asked Count, and not after the present one? A distance of 0 wraps to the largest, and so one
 // comparison tests both.
 fn is_reached(count: u32, compare: u32, last: u32) -> bool
-    ensures { λ r. ⌜ r ≡ reached count compare last ⌝ }
+    ensures { λ r. ⌜ r ≡ comesToCompare count compare last ⌝ }
 {
     let to_compare = std::num::wrapping_sub_u32(compare, last);
     let traveled = std::num::wrapping_sub_u32(count, last);
