@@ -8,13 +8,12 @@ use lib.ListN.{length, getD, set, replicate, length-set}
 use lib.Seq.{ext-getD, getD-set-same, getD-set-other}
 use Rattle.cop0.specs.declared.registers.Cop0.{Cop0}
 use Rattle.tlb.specs.declared.entries.Entry.{Entry}
-use Rattle.tlb.specs.Table.{withVpn2, freshEntry, freshTable}
+use Rattle.tlb.specs.Table.{withVpn2, freshEntry, freshFrom, freshTable}
 use Rattle.tlb.specs.Moves.{entryOf, writtenOf}
 use Rattle.tlb.specs.Words.{hiWord, loWord}
 use Rattle.tlb.specs.Sound.{Sound}
-use Rattle.tlb.proofs.Sound.{fresh-sound}
 use Rattle.tlb.proofs.Words.{words-back}
-use Rattle.rimjhodek.specs.Table.{entryIn, entriesIn, tableIn, putMicro, putEntry, emptied, freshEntries, freshWords}
+use Rattle.rimjhodek.specs.Table.{entryIn, entriesIn, tableIn, putMicro, putEntry, emptied, entriesWords, tableWords}
 use Rattle.rimjhodek.proofs.Scanning.{entries-long, entry-at}
 use Rattle.rimjhodek.proofs.Slots.{to-empty}
 
@@ -99,29 +98,15 @@ module _ (ws : List ℕ) (i : ℕ) (e : Entry) where
 pub hi-fresh : (i : ℕ) → i < 32 → hiWord (freshEntry i) ≡ (0x7FF_FFFF - i) * 8192
 hi-fresh i h = omega arith
 
-module _ (ws : List ℕ) where
-  pub fresh-beside : (n k : ℕ) → n ≤ 32 → 128 ≤ k → getD (freshEntries n ws) k 0 ≡ getD ws k 0
-  unfolding freshEntries
-  fresh-beside zero k h p = refl
-  fresh-beside (suc n) k h p =
-      put-beside (freshEntries n ws) n (freshEntry n) k (omega arith) p ∙ fresh-beside n k (omega arith) p
+-- the first n of them put into words
+unfoldable pub freshEntries : ℕ → List ℕ → List ℕ
+freshEntries zero ws = ws
+freshEntries (suc n) ws = putEntry (freshEntries n ws) n (freshEntry n)
 
-  pub fresh-long : (n : ℕ) → length (freshEntries n ws) ≡ length ws
-  unfolding freshEntries
-  fresh-long zero = refl
-  fresh-long (suc n) = put-long (freshEntries n ws) n (freshEntry n) ∙ fresh-long n
-
-  pub fresh-at : length ws ≡ 132 → (n k : ℕ) → n < 33 → k < n → entryIn (freshEntries n ws) k ≡ freshEntry k
-  unfolding freshEntries
-  fresh-at long zero k h p = absurd (omega arith)
-  fresh-at long (suc n) k h p = go (ℕ-discrete k n) (λ q. fresh-at long n k (omega arith) q)
-    where
-      go : Dec (k ≡ n) → (k < n → entryIn (freshEntries n ws) k ≡ freshEntry k)
-          → entryIn (putEntry (freshEntries n ws) n (freshEntry n)) k ≡ freshEntry k
-      go (yes q) before =
-          rw q (put-same (freshEntries n ws) n (freshEntry n) (omega arith) (fresh-long n ∙ long) (fresh-sound n (omega arith)))
-      go (no q) before =
-          put-other (freshEntries n ws) n (freshEntry n) k q ∙ before (omega (arith, q))
+-- all of them put into words of 0, with the slots emptied
+pub all-fresh : emptied (freshEntries 32 (replicate 132 0)) ≡ tableWords freshTable
+unfolding freshEntries freshFrom entriesWords tableWords
+all-fresh = refl
 
 -- a written entry, with the slots emptied
 pub put-written : (ws : List ℕ) (i : ℕ) (c : Cop0)
@@ -132,11 +117,3 @@ put-written ws i c =
     λ n h. put-beside ws (i % 32) (entryOf c) n (omega arith) h in
     to-empty (putEntry ws (i % 32) (entryOf c)) (writtenOf (tableIn ws) i c) refl
     (rw (past 130 (omega arith))) (rw (past 131 (omega arith)))
-
--- and all fresh ones
-pub all-fresh : emptied (freshEntries 32 (replicate 132 0)) ≡ freshWords
-unfolding freshWords
-all-fresh =
-    to-empty (freshEntries 32 (replicate 132 0)) freshTable refl
-    (rw (fresh-beside (replicate 132 0) 32 130 (omega arith) (omega arith)))
-    (rw (fresh-beside (replicate 132 0) 32 131 (omega arith) (omega arith)))

@@ -14,9 +14,8 @@ use Rattle.cop0.specs.declared.registers.Cop0.{Cop0}
 use Rattle.tlb.specs.declared.entries.Entry.{Entry}
 use Rattle.tlb.specs.declared.table.Tlb.{Tlb}
 use Rattle.tlb.specs.Sound.{Sound}
-use Rattle.tlb.specs.Table.{freshFrom, freshTable}
 use Rattle.rimjhodek.specs.Registers.{cop0In, putIn, over, blank, cop0Words}
-use Rattle.rimjhodek.specs.Table.{entriesIn, tableIn, putMicro, putEntry, entryWords, entriesWords, tableWords, freshEntries, freshWords}
+use Rattle.rimjhodek.specs.Table.{entriesIn, tableIn, putMicro, putEntry, entryWords, entriesWords, tableWords}
 use Rattle.rimjhodek.proofs.Meaning.{Rest, Fits, in-fits, again, in-put, rest-put}
 use Rattle.rimjhodek.proofs.Scanning.{entries-long}
 use Rattle.rimjhodek.proofs.Entering.{put-table, put-beside}
@@ -126,11 +125,3 @@ module _ (ws : List ℕ) (long : length ws ≡ 132) (exact : ws ≡ tableWords (
         beside 131 (omega arith),
       )
       (ap (λ (l : List ℕ). putEntry l i e) exact ∙ entry-put (entriesIn ws) _ i e (rw (entries-long ws) h))
-
--- the fresh table's
-pub fresh-words : freshWords ≡ tableWords freshTable
-unfolding freshWords freshEntries freshFrom putMicro entriesWords tableWords
-fresh-words = refl
-
-pub exact-fresh : freshWords ≡ tableWords (tableIn freshWords)
-exact-fresh = fresh-words ∙ ap tableWords (sym tables.in-fresh)

@@ -18,6 +18,7 @@ use Rattle.cop0.specs.Cut.{Piece, allCounts, allMoves}
 use Rattle.cop0.specs.Machine.{Steady}
 use Rattle.cop0.proofs.Steady.{fresh-steady}
 use Rattle.tlb.specs.declared.table.Tlb.{Tlb}
+use Rattle.tlb.specs.Table.{freshTable}
 use Rattle.session.specs.declared.session.Session.{Session}
 use Rattle.session.specs.declared.op.Op.{Op}
 use Rattle.session.specs.declared.op.Op.the-variants as op
@@ -26,12 +27,11 @@ use Rattle.session.specs.Step.{Outcome}
 use Rattle.session.specs.Run.{Ran, preceded, runBy, run, advances}
 use Rattle.session.proofs.Rooms as rooms
 use Rattle.rimjhodek.specs.Registers.{blank, cop0Words}
-use Rattle.rimjhodek.specs.Table.{freshWords}
+use Rattle.rimjhodek.specs.Table.{tableWords}
 use Rattle.rimjhodek.specs.Sessions.{Words, words, sessionIn, sessionWords, Whole, Exact}
 use Rattle.rimjhodek.proofs.Meaning as registers
 use Rattle.rimjhodek.proofs.Fitting.{fresh-fits}
 use Rattle.rimjhodek.proofs.Tables as tables
-use Rattle.rimjhodek.proofs.Exact.{exact-fresh}
 use Rattle.rimjhodek.proofs.Calls.{Call, call-steps}
 use Rattle.rimjhodek.proofs.sessions.rimjhodek_session_new as session-new
 use Rattle.rimjhodek.proofs.sessions.rimjhodek_session_new.Reads as session-new-reads
@@ -118,12 +118,12 @@ pub record Starts (w : Words) : Type 0 where
   pub exact : Exact w
   pub means : sessionIn w ≡ fresh
 
-starts : Starts (words (cop0Words cop0.fresh) freshWords)
+starts : Starts (words (cop0Words cop0.fresh) (tableWords freshTable))
 starts =
     let back = registers.in-put blank cop0.fresh fresh-fits in
     record {
       whole = record { cop0 = registers.long-put blank cop0.fresh fresh-fits; tlb = tables.long-fresh };
-      exact = record { cop0 = ap cop0Words (sym back); tlb = exact-fresh };
+      exact = record { cop0 = ap cop0Words (sym back); tlb = ap tableWords (sym tables.in-fresh) };
       means = ap₂ (λ (c : Cop0) (t : Tlb). record { cop0 = c; tlb = t }) back tables.in-fresh;
     }
 

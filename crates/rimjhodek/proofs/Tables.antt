@@ -5,18 +5,18 @@ use mathlib.Core.List.{List, [], _∷_}
 use Prim.Native.Nat.{ℕ, zero, suc, _+_, _-_, _*_, _%_, _^_, _<_, _≤_}
 use native.Mathlib.Omega.{arith}
 use lib.Dec.{eqb, ltb}
-use lib.ListN.{length, getD, set, replicate, length-set, length-replicate}
+use lib.ListN.{length, getD, set, length-set}
 use lib.Seq.{ext-getD, getD-set-same, getD-set-other}
 use borrow.Author.Tests.{eq-eqb, ne-eqb, ltb-true}
 use Rattle.bits.specs.Field.{bit}
+use Rattle.bits.specs.Mask.{mergedBits}
 use Rattle.cop0.specs.declared.registers.Cop0.{Cop0}
 use Rattle.tlb.specs.declared.table.Tlb.{Tlb}
 use Rattle.tlb.specs.declared.micro.ItlbProbed.{ItlbProbed}
-use Rattle.tlb.specs.Table.{withVpn2, matching, freshTable}
+use Rattle.tlb.specs.Table.{withVpn2, matching, freshFrom, freshTable}
 use Rattle.tlb.specs.Lookup.{shutDown, tableBy, lookupTable}
 use Rattle.tlb.specs.Micro.{withItlb, lowest, slotHits, probedOf, filledOf}
 use Rattle.tlb.specs.Moves.{entryOf, writtenOf}
-use Rattle.tlb.proofs.Freshly.{fresh}
 use Rattle.tlb.proofs.Sound.{entry-sound}
 use Rattle.addr.specs.declared.access.Access.{Access}
 use Rattle.addr.specs.declared.segments.Segment.{Segment}
@@ -24,9 +24,9 @@ use Rattle.addr.specs.declared.segments.Segment.the-variants.{Direct, Mapped, I
 use Rattle.addr.specs.Segments.{segmentOf}
 use Rattle.addr.specs.Translate.{segmentTable, translateTable}
 use Rattle.rimjhodek.specs.Registers.{over}
-use Rattle.rimjhodek.specs.Table.{entryIn, entriesIn, tableIn, putMicro, putEntry, freshEntries, freshWords}
+use Rattle.rimjhodek.specs.Table.{entryIn, entriesIn, tableIn, putMicro, putEntry, entriesFrom, entriesWords, tableWords}
 use Rattle.rimjhodek.proofs.Scanning.{entries-long, entry-at}
-use Rattle.rimjhodek.proofs.Entering.{put-table, fresh-long, fresh-at}
+use Rattle.rimjhodek.proofs.Entering.{put-table}
 
 -- the entries do not depend on what lies beside them
 beside : (ws : List ℕ) (n x : ℕ) → 128 ≤ n → entriesIn (set ws n x) ≡ entriesIn ws
@@ -216,28 +216,11 @@ module _ (ws : List ℕ) where
           next = omega arith;
         }
 
--- a fresh table
-abbrev filled : List ℕ
-filled = freshEntries 32 (replicate 132 0)
+-- the words of a fresh table
+pub in-fresh : tableIn (tableWords freshTable) ≡ freshTable
+unfolding entryIn entriesFrom freshFrom entriesWords tableWords mergedBits
+in-fresh = refl
 
-long-filled : length filled ≡ 132
-long-filled = fresh-long (replicate 132 0) 32 ∙ length-replicate {A = ℕ} 132 0
-
-fresh-fits : Fits filled freshTable
-fresh-fits =
-    record {
-      entries = sym (fresh (entriesIn filled) (entries-long filled)
-          (λ k h. entry-at filled k h ∙ fresh-at (replicate 132 0) (length-replicate {A = ℕ} 132 0) 32 k (omega arith) h));
-      two = refl;
-      first = omega arith;
-      second = omega arith;
-      next = omega arith;
-    }
-
-pub in-fresh : tableIn freshWords ≡ freshTable
-unfolding freshWords
-in-fresh = in-put filled freshTable long-filled fresh-fits
-
-pub long-fresh : length freshWords ≡ 132
-unfolding freshWords
-long-fresh = long-put filled freshTable long-filled
+pub long-fresh : length (tableWords freshTable) ≡ 132
+unfolding freshFrom entriesWords tableWords
+long-fresh = refl

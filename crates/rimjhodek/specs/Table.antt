@@ -1,6 +1,6 @@
 -- The TLB as 132 words. Entry i is words 4i to 4i + 3: PageMask, EntryHi, EntryLo0 and EntryLo1 (figure 5-10). Words 128 and 129
 -- are the micro-TLB's slots, 130 its next slot, 131 whether the TLB is shut down.
-use mathlib.Core.Bool.{Bool, true, false, cond, _&&_, _||_}
+use mathlib.Core.Bool.{Bool, false, cond, _&&_, _||_}
 use mathlib.Core.List.{List, [], _∷_, _++_}
 use Prim.Native.Nat.{ℕ, zero, suc, _+_, _*_, _/_, _%_, _^_}
 use lib.Dec.{eqb, ltb}
@@ -13,7 +13,6 @@ use Rattle.tlb.specs.declared.entries.LookupAnswer.{LookupAnswer}
 use Rattle.tlb.specs.declared.entries.LookupAnswer.the-variants.{Found, Fault}
 use Rattle.tlb.specs.declared.table.Tlb.{Tlb}
 use Rattle.tlb.specs.Entries.{faultNumber}
-use Rattle.tlb.specs.Table.{freshEntry, freshTable}
 use Rattle.tlb.specs.Micro.{lowest}
 use Rattle.tlb.specs.Words.{entryOfWords, hiWord, loWord}
 use Rattle.rimjhodek.specs.declared.table.Looked.{Looked}
@@ -104,15 +103,6 @@ tableWords t =
 -- the slots empty
 abbrev pub emptied : List ℕ → List ℕ
 emptied ws = set (set ws 128 (over 8 (getD ws 128 0) 32)) 129 (over 8 (getD ws 129 0) 32)
-
--- the first n entries fresh
-unfoldable pub freshEntries : ℕ → List ℕ → List ℕ
-freshEntries zero ws = ws
-freshEntries (suc n) ws = putEntry (freshEntries n ws) n (freshEntry n)
-
--- a fresh table, into words of 0
-unfoldable pub freshWords : List ℕ
-freshWords = putMicro (freshEntries 32 (replicate 132 0)) freshTable
 
 -- a table of one entry alone
 abbrev pub filledWith : Entry → Tlb

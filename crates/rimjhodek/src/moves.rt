@@ -1,11 +1,11 @@
 // Entries between the TLB's words and the registers': TLBWI and TLBWR, TLBR, TLBP.
 ghost use mathlib.Core.Path.{_≡_};
 ghost use Prim.Native.Nat.{_<_, _%_};
-ghost use Rattle.tlb.specs.Table.{freshEntry};
+ghost use Rattle.tlb.specs.Table.{freshEntry, freshTable};
 ghost use Rattle.tlb.specs.Moves.{entryOf, writtenOf, readEntryOf, probeOf, pageOf};
 ghost use Rattle.tlb.specs.Words.{hiWord, loWord};
 ghost use Rattle.rimjhodek.specs.Registers.{cop0In, putIn};
-ghost use Rattle.rimjhodek.specs.Table.{entryIn, tableIn, putMicro, putEntry, emptied, freshWords, filledWith, indexFor};
+ghost use Rattle.rimjhodek.specs.Table.{entryIn, tableIn, putMicro, putEntry, tableWords, emptied, filledWith, indexFor};
 use crate::table::lowest;
 use crate::words::cop0_in;
 use crate::words::sized;
@@ -17,7 +17,7 @@ use tlb::Tlb;
 // A fresh table, in place: one that is built first takes as much stack. Whatever was lent is overwritten whole.
 #[no_mangle]
 pub extern "C" fn rimjhodek_tlb_new(tlb: &mut [u64; 132])
-    ensures { λ _. ⌜ now (tlb .exit) ≡ freshWords ⌝ }
+    ensures { λ _. ⌜ now (tlb .exit) ≡ tableWords freshTable ⌝ }
 {
     let blank = [0; 132];
     *tlb = blank;

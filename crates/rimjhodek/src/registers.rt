@@ -9,7 +9,7 @@ ghost use Rattle.cop0.specs.Record.{fresh};
 ghost use Rattle.cop0.specs.Clock.{countAt, countOf, asked};
 ghost use Rattle.cop0.specs.File.{besides, writeOf, setHardwareOf};
 ghost use Rattle.cop0.specs.Access.{mfc0Of, dmfc0Of, moved32, mtc0Of, dmtc0Of, fromRsOf};
-ghost use Rattle.rimjhodek.specs.Registers.{cop0In, putIn, blank, isSpecial, specialOf, isWatched, formOf};
+ghost use Rattle.rimjhodek.specs.Registers.{cop0In, putIn, cop0Words, isSpecial, specialOf, isWatched, formOf};
 use crate::answers::Number;
 use crate::masks;
 use crate::words::sized;
@@ -18,7 +18,7 @@ use cop0::Cop0;
 // The register file as at cold reset. Whatever was lent is overwritten whole.
 #[no_mangle]
 pub extern "C" fn rimjhodek_cop0_new(cop0: &mut [u64; 38])
-    ensures { λ _. ⌜ now (cop0 .exit) ≡ putIn blank fresh ⌝ }
+    ensures { λ _. ⌜ now (cop0 .exit) ≡ cop0Words fresh ⌝ }
 {
     let new = Cop0::new();
     let regs = new.regs;

@@ -4,8 +4,7 @@ use Prim.Native.Nat.{_≤_, _-_}
 use native.Mathlib.Numerals.{add-one}
 use native.Mathlib.Omega.{arith}
 use lib.ListN.{replicate}
-use Rattle.rimjhodek.specs.Table.{freshEntries}
-use Rattle.rimjhodek.proofs.Entering.{all-fresh}
+use Rattle.rimjhodek.proofs.Entering.{freshEntries, all-fresh}
 use borrow.Author.Needs.{needs}
 use Rattle.rimjhodek.proofs.moves.rimjhodek_tlb_new.Statement.{statement}
 use Rattle.rimjhodek.proofs.moves.rimjhodek_tlb_new.Tie as tie
