@@ -14,11 +14,11 @@ use Rattle.exception.specs.Returning.{inError, eretOf}
 use Rattle.exception.proofs.Untouched.{either}
 
 module _ (P : Cop0 → Type 0) (set : (c : Cop0) → P c → (n v : ℕ) → P (setHardwareOf c n v)) where
-  recorded-by : (c : Cop0) → P c → (e : Exception) (pc : ℕ) (slot : Bool) → P (recorded c e pc slot)
+  pub recorded-by : (c : Cop0) → P c → (e : Exception) (pc : ℕ) (slot : Bool) → P (recorded c e pc slot)
   unfolding recorded
   recorded-by c p e pc slot = either P (inHandler c) (set _ p _ _) (set _ (set _ p _ _) _ _)
 
-  addressed-by : (c : Cop0) → P c → (v : ℕ) → P (addressed c v)
+  pub addressed-by : (c : Cop0) → P c → (v : ℕ) → P (addressed c v)
   unfolding addressed
   addressed-by c p v = set _ (set _ (set _ (set _ p _ _) _ _) _ _) _ _
 

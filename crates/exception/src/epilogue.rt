@@ -62,7 +62,7 @@ pub(crate) fn enter(cop0: Cop0) -> Cop0
 
 // ExcCode (6..2) and CE (29..28), which is written with every exception: a unit left from an earlier one would be read as this
 // one's.
-fn cause(old: u64, exc: Exception) -> u64
+pub fn cause(old: u64, exc: Exception) -> u64
     ensures { λ r. ⌜ r ≡ causeOf old exc ⌝ }
 {
     let with_code = bits::with_field(old, 6, 2, kinds::exc_code_of(exc));
@@ -70,7 +70,7 @@ fn cause(old: u64, exc: Exception) -> u64
 }
 
 // Where to return to: an instruction in a delay slot is run again from its branch.
-fn epc(pc: u64, in_delay_slot: bool) -> u64
+pub fn epc(pc: u64, in_delay_slot: bool) -> u64
     ensures { λ r. ⌜ r ≡ epcOf pc «in_delay_slot» ⌝ }
 {
     if in_delay_slot {
@@ -80,14 +80,14 @@ fn epc(pc: u64, in_delay_slot: bool) -> u64
 }
 
 // BadVPN2 (22..4) under the page table's base.
-fn context(old: u64, bad_vaddr: u64) -> u64
+pub fn context(old: u64, bad_vaddr: u64) -> u64
     ensures { λ r. ⌜ r ≡ contextOf old «bad_vaddr» ⌝ }
 {
     bits::with_field(old, 22, 4, bits::field(bad_vaddr, 31, 13))
 }
 
 // R (32..31) and BadVPN2 (30..4) under the page table's base.
-fn xcontext(old: u64, bad_vaddr: u64) -> u64
+pub fn xcontext(old: u64, bad_vaddr: u64) -> u64
     ensures { λ r. ⌜ r ≡ xcontextOf old «bad_vaddr» ⌝ }
 {
     let with_page = bits::with_field(old, 30, 4, bits::field(bad_vaddr, 39, 13));
@@ -95,7 +95,7 @@ fn xcontext(old: u64, bad_vaddr: u64) -> u64
 }
 
 // R (63..62) and VPN2 (39..13), in place; ASID stays.
-fn entry_hi(old: u64, bad_vaddr: u64) -> u64
+pub fn entry_hi(old: u64, bad_vaddr: u64) -> u64
     ensures { λ r. ⌜ r ≡ entryHiOf old «bad_vaddr» ⌝ }
 {
     let with_page = bits::with_field(old, 39, 13, bits::field(bad_vaddr, 39, 13));

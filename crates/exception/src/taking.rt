@@ -49,7 +49,7 @@ pub fn nmi(cop0: Cop0, pc: u64) -> Dispatched
 }
 
 // TS (21) off; ERL (2), SR (20) and BEV (22) on.
-fn nmi_status(status: u64) -> u64
+pub fn nmi_status(status: u64) -> u64
     ensures { λ r. ⌜ r ≡ nmiStatusOf status ⌝ }
 {
     let without_ts = bits::with_field(status, 21, 21, 0);

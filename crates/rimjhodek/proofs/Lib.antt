@@ -15,7 +15,7 @@ pub mod Exact
 pub mod Stepping
 pub mod Segments
 pub mod Translating
-pub mod Touched
+pub mod Taking
 pub mod ExceptionSteps
 pub mod TableSteps
 pub mod Unique

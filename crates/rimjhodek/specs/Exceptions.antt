@@ -62,7 +62,3 @@ dispatchTold c e pc slot bad = ifNamed (isException e) (dispatchValues (dispatch
 
 unfoldable pub dispatchedOf : Cop0 → Exc → ℕ → Bool → ℕ → Cop0
 dispatchedOf c e pc slot bad = cond (isException e) (dispatchOf c (exceptionOf e) pc slot bad .cop0) c
-
--- Status, Cause, EPC, BadVAddr, Context, XContext, EntryHi, ErrorEPC: all that an exception changes
-abbrev pub touched : List ℕ
-touched = 12 ∷ 13 ∷ 14 ∷ 8 ∷ 4 ∷ 20 ∷ 10 ∷ 30 ∷ []

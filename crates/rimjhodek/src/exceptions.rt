@@ -5,18 +5,25 @@ ghost use Rattle.bits.specs.Field.{bit};
 ghost use Rattle.bits.specs.Told.{answered, refused};
 ghost use Rattle.exception.specs.Kinds.{excCodeOf, vectorKindOf, writesBadVaddrOf};
 ghost use Rattle.exception.specs.Vectors.{kindNumber, vectorOf};
-ghost use Rattle.exception.specs.Taking.{nmiOf};
+ghost use Rattle.exception.specs.Taking.{nmiOf, dispatchOf};
 ghost use Rattle.exception.specs.Returning.{eretOf};
 ghost use Rattle.rimjhodek.specs.Answers.{flagOf, numberOf};
 ghost use Rattle.rimjhodek.specs.Numbered.{unknown, ifNamed};
-ghost use Rattle.rimjhodek.specs.Registers.{cop0In, putIn, puttingBack};
-ghost use Rattle.rimjhodek.specs.Exceptions.{isException, exceptionOf, isKind, kindOf, dispatchValues, takenOf, dispatchTold, dispatchedOf, touched};
+ghost use Rattle.rimjhodek.specs.Registers.{cop0In, putIn};
+ghost use Rattle.rimjhodek.specs.Exceptions.{isException, exceptionOf, isKind, kindOf, dispatchValues, takenOf, dispatchTold, dispatchedOf};
 use crate::answers::Flag;
 use crate::answers::Number;
+use crate::epilogue::EPC;
+use crate::epilogue::ERROR_EPC;
+use crate::epilogue::STATUS;
+use crate::epilogue::enter;
+use crate::epilogue::record;
+use crate::epilogue::record_address;
 use crate::refusals::UNKNOWN;
-use crate::words::cop0_in;
+use crate::registers::rimjhodek_dmfc0;
+use crate::registers::rimjhodek_set_hardware;
 use crate::words::sized;
-use exception::Dispatch;
+use exception::EPILOGUE_STALL;
 use exception::Exception;
 use exception::VectorKind;
 
@@ -50,18 +57,12 @@ pub extern "C" fn rimjhodek_dispatch(
         × (now (cop0 .exit) ≡ putIn (now (cop0 .entry)) (dispatchedOf (cop0In (now (cop0 .entry))) exc pc «in_delay_slot» «bad_vaddr»)) ⌝ }
 {
     sized(*cop0);
+    // An access waits for a refill: it goes apart from the choice between the others.
+    if exc.number == 10 {
+        return refill(cop0, exc, pc, in_delay_slot, bad_vaddr);
+    }
     if is_exception(exc) {
-        let dispatched = exception::dispatch(
-            cop0_in(*cop0),
-            exception_of(exc),
-            pc,
-            in_delay_slot,
-            bad_vaddr,
-        );
-        let after = dispatched.cop0;
-        let stored = after.regs;
-        put_back(cop0, stored);
-        return taking(dispatched.dispatch);
+        return dispatch(cop0, exception_of(exc), pc, in_delay_slot, bad_vaddr);
     }
     Taken {
         refused: UNKNOWN,
@@ -70,35 +71,34 @@ pub extern "C" fn rimjhodek_dispatch(
     }
 }
 
-// The non-maskable interrupt.
+// The non-maskable interrupt (6.4.6): ErrorEPC, and four bits of Status.
 #[no_mangle]
 pub extern "C" fn rimjhodek_nmi(cop0: &mut [u64; 38], pc: u64) -> Taken
     ensures { λ r. ⌜ (r ≡ takenOf (answered (dispatchValues (nmiOf (cop0In (now (cop0 .entry))) pc .dispatch))))
         × (now (cop0 .exit) ≡ putIn (now (cop0 .entry)) (nmiOf (cop0In (now (cop0 .entry))) pc .cop0)) ⌝ }
 {
     sized(*cop0);
-    let dispatched = exception::nmi(cop0_in(*cop0), pc);
-    let after = dispatched.cop0;
-    let stored = after.regs;
-    // All that it changes.
-    cop0[12] = stored[12];
-    cop0[30] = stored[30];
-    taking(dispatched.dispatch)
+    let status = rimjhodek_dmfc0(cop0, STATUS);
+    rimjhodek_set_hardware(cop0, ERROR_EPC, pc);
+    rimjhodek_set_hardware(cop0, STATUS, exception::nmi_status(status));
+    taking(exception::vector(status, VectorKind::Reset), EPILOGUE_STALL)
 }
 
-// `ERET`: answers where to resume.
+// `ERET`: answers where to resume. From an error's handler (ERL) by ErrorEPC, else by EPC.
 #[no_mangle]
 pub extern "C" fn rimjhodek_eret(cop0: &mut [u64; 38]) -> u64
     ensures { λ r. ⌜ (r ≡ eretOf (cop0In (now (cop0 .entry))) .pc)
         × (now (cop0 .exit) ≡ putIn (now (cop0 .entry)) (eretOf (cop0In (now (cop0 .entry))) .cop0)) ⌝ }
 {
-    sized(*cop0);
-    let returned = exception::eret(cop0_in(*cop0));
-    let after = returned.cop0;
-    let regs = after.regs;
-    // Status is all that a return changes.
-    cop0[12] = regs[12];
-    returned.pc
+    let status = rimjhodek_dmfc0(cop0, STATUS);
+    if bits::field(status, 2, 2) == 1 {
+        let pc = rimjhodek_dmfc0(cop0, ERROR_EPC);
+        rimjhodek_set_hardware(cop0, STATUS, bits::with_field(status, 2, 2, 0));
+        return pc;
+    }
+    let pc = rimjhodek_dmfc0(cop0, EPC);
+    rimjhodek_set_hardware(cop0, STATUS, bits::with_field(status, 1, 1, 0));
+    pc
 }
 
 // Where a handler starts. A vector's number is in `VectorKind`'s order from 0.
@@ -162,13 +162,59 @@ fn is_kind(kind: u8) -> bool
     kind < 4
 }
 
-fn taking(dispatch: Dispatch) -> Taken
-    ensures { λ r. ⌜ r ≡ takenOf (answered (dispatchValues dispatch)) ⌝ }
+// An exception's own steps on the words (figure 6-14): its cause, its faulting address where it has one, and EXL.
+fn dispatch(
+    cop0: &mut [u64; 38],
+    exc: Exception,
+    pc: u64,
+    in_delay_slot: bool,
+    bad_vaddr: u64,
+) -> Taken
+    ensures { λ r. ⌜ (r ≡ takenOf (answered (dispatchValues
+        (dispatchOf (cop0In (now (cop0 .entry))) exc pc «in_delay_slot» «bad_vaddr» .dispatch))))
+        × (now (cop0 .exit) ≡ putIn (now (cop0 .entry)) (dispatchOf (cop0In (now (cop0 .entry))) exc pc «in_delay_slot» «bad_vaddr» .cop0)) ⌝ }
+{
+    sized(*cop0);
+    let kind = exception::vector_kind_of(exc);
+    // NMI alone takes the Reset vector, and does nothing of what follows.
+    if kind_number(kind) == 3 {
+        return rimjhodek_nmi(cop0, pc);
+    }
+    let vector = exception::vector(rimjhodek_dmfc0(cop0, STATUS), kind);
+    record(cop0, exc, pc, in_delay_slot);
+    if exception::writes_bad_vaddr(exc) {
+        record_address(cop0, bad_vaddr);
+        enter(cop0);
+        return taking(vector, EPILOGUE_STALL);
+    }
+    enter(cop0);
+    taking(vector, EPILOGUE_STALL)
+}
+
+// The same of a refill. Its code, its address and its vector are known then, and the compiler leaves no choice between exceptions.
+fn refill(cop0: &mut [u64; 38], exc: Exc, pc: u64, in_delay_slot: bool, bad_vaddr: u64) -> Taken
+    requires { ⌜ exc .number ≡ 10 ⌝ }
+    ensures { λ r. ⌜ (r ≡ takenOf (answered (dispatchValues
+        (dispatchOf (cop0In (now (cop0 .entry))) (exceptionOf exc) pc «in_delay_slot» «bad_vaddr» .dispatch))))
+        × (now (cop0 .exit) ≡ putIn (now (cop0 .entry)) (dispatchOf (cop0In (now (cop0 .entry))) (exceptionOf exc) pc «in_delay_slot» «bad_vaddr» .cop0)) ⌝ }
+{
+    sized(*cop0);
+    let refill = exception_of(exc);
+    let kind = exception::vector_kind_of(refill);
+    let vector = exception::vector(rimjhodek_dmfc0(cop0, STATUS), kind);
+    record(cop0, refill, pc, in_delay_slot);
+    record_address(cop0, bad_vaddr);
+    enter(cop0);
+    taking(vector, EPILOGUE_STALL)
+}
+
+fn taking(vector: u64, stall_cycles: u32) -> Taken
+    ensures { λ r. ⌜ r ≡ takenOf (answered (vector ∷ «stall_cycles» ∷ [])) ⌝ }
 {
     Taken {
         refused: 0,
-        stall_cycles: dispatch.stall_cycles,
-        vector: dispatch.vector,
+        stall_cycles,
+        vector,
     }
 }
 
@@ -186,21 +232,6 @@ fn no_number() -> Number
         refused: UNKNOWN,
         value: 0,
     }
-}
-
-// The registers that a dispatch can change, which are all that have to be stored again: Status, Cause, EPC, BadVAddr, Context,
-// XContext, EntryHi, ErrorEPC.
-fn put_back(cop0: &mut [u64; 38], after: [u64; 32])
-    ensures { λ _. ⌜ now (cop0 .exit) ≡ puttingBack touched after (now (cop0 .entry)) ⌝ }
-{
-    cop0[12] = after[12];
-    cop0[13] = after[13];
-    cop0[14] = after[14];
-    cop0[8] = after[8];
-    cop0[4] = after[4];
-    cop0[20] = after[20];
-    cop0[10] = after[10];
-    cop0[30] = after[30];
 }
 
 fn exception_of(exc: Exc) -> Exception

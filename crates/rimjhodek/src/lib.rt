@@ -2,6 +2,7 @@
 mod answers;
 mod clock;
 mod dcache;
+mod epilogue;
 mod exceptions;
 mod icache;
 mod interrupts;
