@@ -1,10 +1,13 @@
 -- A translation as it crosses.
 use mathlib.Core.Bool.{Bool, cond, not}
 use Prim.Native.Nat.{ℕ, _+_}
+use lib.Dec.{eqb}
+use Rattle.bits.specs.Field.{fieldOf}
 use Rattle.tlb.specs.declared.table.Tlb.{Tlb}
 use Rattle.addr.specs.declared.translate.TranslateAnswer.{TranslateAnswer}
 use Rattle.addr.specs.declared.translate.TranslateAnswer.the-variants.{At, Failed}
 use Rattle.addr.specs.Answers.{errorNumber}
+use Rattle.addr.specs.Segments.{inside}
 use Rattle.addr.specs.Translate.{translateAnswer, translateTable}
 use Rattle.rimjhodek.specs.declared.modes.By.{By}
 use Rattle.rimjhodek.specs.declared.table.Looked.{Looked}
@@ -24,3 +27,15 @@ viaAnswer t v asid store a =
 
 unfoldable pub viaTable : Tlb → ℕ → ℕ → By → Tlb
 viaTable t v asid a = cond (isMode (a .mode)) (translateTable t v asid (accessIn a)) t
+
+-- KSEG0 and KSEG1, one after the other (5.2.4)
+unfoldable pub isKseg : ℕ → Bool
+isKseg v = inside 0xFFFF_FFFF_8000_0000 0xFFFF_FFFF_BFFF_FFFF v
+
+-- bits 28..0, uncached in KSEG1, which bit 29 tells
+abbrev pub unmapped : ℕ → Looked
+unmapped v = record { error = 0; uncached = eqb (fieldOf v 29 29) 1; addr = fieldOf v 28 0 }
+
+-- they are the kernel's, and an address error to the other modes
+unfoldable pub ksegAnswer : ℕ → ℕ → Looked
+ksegAnswer mode v = cond (eqb mode 0) (unmapped v) (failed (cond (isMode mode) 4 unknown))

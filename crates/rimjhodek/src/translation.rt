@@ -3,7 +3,7 @@ ghost use mathlib.Core.Path.{_≡_};
 ghost use Rattle.addr.specs.Translate.{translateAnswer, translateTable};
 ghost use Rattle.rimjhodek.specs.Modes.{accessIn};
 ghost use Rattle.rimjhodek.specs.Table.{tableIn, putMicro};
-ghost use Rattle.rimjhodek.specs.Translation.{translatedOf, viaAnswer, viaTable};
+ghost use Rattle.rimjhodek.specs.Translation.{translatedOf, viaAnswer, viaTable, isKseg, unmapped, ksegAnswer};
 use crate::modes::By;
 use crate::modes::access_in;
 use crate::modes::is_cached;
@@ -14,7 +14,7 @@ use crate::table::failed;
 use crate::table::look;
 use addr::Segment;
 
-// Where an address leads by an access.
+// Where an address leads by an access. KSEG0 and KSEG1, where most accesses go, are asked before the other segments.
 #[no_mangle]
 pub extern "C" fn rimjhodek_translate_via(
     tlb: &mut [u64; 132],
@@ -26,6 +26,9 @@ pub extern "C" fn rimjhodek_translate_via(
     ensures { λ r. ⌜ (r ≡ viaAnswer (tableIn (now (tlb .entry))) vaddr asid store access)
         × (now (tlb .exit) ≡ putMicro (now (tlb .entry)) (viaTable (tableIn (now (tlb .entry))) vaddr asid access)) ⌝ }
 {
+    if is_kseg(vaddr) {
+        return in_kseg(access.mode, vaddr);
+    }
     if is_mode(access.mode) {
         return translate(tlb, vaddr, asid, store, access);
     }
@@ -45,5 +48,37 @@ fn translate(tlb: &mut [u64; 132], vaddr: u64, asid: u8, store: bool, access: By
         },
         Segment::Mapped => look(tlb, vaddr, asid, store),
         Segment::Invalid => failed(4),
+    }
+}
+
+// Does an address lie in KSEG0 or KSEG1, which adjoin (5.2.4)?
+fn is_kseg(vaddr: u64) -> bool
+    ensures { λ r. ⌜ r ≡ isKseg vaddr ⌝ }
+{
+    0xFFFF_FFFF_8000_0000 <= vaddr && vaddr <= 0xFFFF_FFFF_BFFF_FFFF
+}
+
+// Where an address of KSEG0 or KSEG1 leads: they are the kernel's, whatever the width, with ERL or without.
+fn in_kseg(mode: u8, vaddr: u64) -> Looked
+    ensures { λ r. ⌜ r ≡ ksegAnswer mode vaddr ⌝ }
+{
+    if mode == 0 {
+        return unmapped(vaddr);
+    }
+    if !is_mode(mode) {
+        return failed(UNKNOWN);
+    }
+    failed(4)
+}
+
+// Bits 28..0, where bit 29 tells KSEG1 from KSEG0.
+fn unmapped(vaddr: u64) -> Looked
+    ensures { λ r. ⌜ r ≡ unmapped vaddr ⌝ }
+{
+    let addr = bits::field(vaddr, 28, 0) as u32;
+    Looked {
+        error: 0,
+        uncached: bits::field(vaddr, 29, 29) == 1,
+        addr,
     }
 }
