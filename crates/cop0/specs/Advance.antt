@@ -36,7 +36,7 @@ unfoldable pub advanceOf : Cop0 → ℕ → ℕ → Cop0
 advanceOf c counts steps =
     cond (ltb counts (2 ^ 32)) (raisedIf (edgeOf (moved c counts steps)) (asked (moved c counts steps))) c
 
--- the number by which an answer crosses to another language: its value (0 no edge, 1 an edge), or a refusal's own number
+-- an answer as one number: its value (0 no edge, 1 an edge), or a refusal's own number
 abbrev pub codeOf : Told → ℕ
 codeOf t = getD (t .values) 0 (t .number)
 

@@ -1,10 +1,10 @@
-// The clock advance for a caller in another language, which lends its record.
+// The clock advance for a caller that lends its record.
 ghost use mathlib.Core.Path.{_≡_};
 ghost use Rattle.cop0.specs.Advance.{toldAdvance, advanceOf, codeOf, advanceCode};
 use crate::advance::AdvanceAnswer;
 use crate::registers::Cop0;
 
-// An advance whose answer is a number, since an enum does not cross to another language.
+// An advance, with its answer as a number.
 struct Coded {
     code: u8,
     cop0: Cop0,
@@ -12,8 +12,7 @@ struct Coded {
 
 // `Cop0::advance` that changes the record where it stands, so that it need not pass through the call. Answers 0 for no edge, 1
 // for an edge, or the number of the refusal.
-#[no_mangle]
-pub extern "C" fn advance_in_place(c: &mut Cop0, counts: u64, steps: u64) -> u8
+pub fn advance_in_place(c: &mut Cop0, counts: u64, steps: u64) -> u8
     ensures { λ r. ⌜ (r ≡ advanceCode (now (c .entry)) counts steps) × (now (c .exit) ≡ advanceOf (now (c .entry)) counts steps) ⌝ }
 {
     let after = advance_coded(*c, counts, steps);
