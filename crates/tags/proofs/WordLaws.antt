@@ -1,10 +1,10 @@
--- Tag words: each field reads back from a word that was made of them.
-use mathlib.Core.Path.{_≡_, ap, ap₂, _∙_}
+-- Tag words: each field reads back from a word that was made of them, and one comparison tells a hit.
+use mathlib.Core.Path.{_≡_, refl, ap, ap₂, _∙_}
 use mathlib.Core.Bool.{Bool, true, false, _&&_, cond}
-use Prim.Native.Nat.{ℕ, _+_, _*_, _^_, _<_, _≤_}
+use Prim.Native.Nat.{ℕ, _+_, _*_, _%_, _^_, _<_, _≤_}
 use native.Mathlib.Omega.{arith}
 use lib.Dec.{eqb}
-use borrow.Author.Tests.{eq-eqb}
+use borrow.Author.Tests.{eq-eqb, ne-eqb, eqb-true, eqb-false}
 use Rattle.bits.specs.Field.{fieldOf, bit}
 use Rattle.bits.proofs.FieldLaws.{field-lt, bit-undone}
 use Rattle.tags.specs.Words.{tagOf, wordTag, isValid, isDirty, wordOf, hitOf, tagLoOf, storedOf}
@@ -33,6 +33,20 @@ unfolding hitOf
 hit-back a d h =
     let small : tagOf a < 2 ^ 20 = omega arith in
     ap₂ _&&_ (valid-back (tagOf a) true d small) (eq-eqb (wordTag (wordOf (tagOf a) true d)) (tagOf a) (tag-back (tagOf a) true d small))
+
+-- a word hits where, below the dirty flag, it is the word of a clean line that the address has taken
+module _ (w a : ℕ) (h : a < 2 ^ 32) where
+  abbrev own : ℕ
+  own = wordOf (tagOf a) true false
+
+  pub hit-at-once : eqb (w % 2 ^ 21) own ≡ hitOf w a
+  unfolding hitOf
+  hit-at-once = go (eqb (fieldOf w 20 20) 1) refl (eqb (wordTag w) (tagOf a)) refl
+    where
+      go : (v : Bool) → eqb (fieldOf w 20 20) 1 ≡ v → (t : Bool) → eqb (wordTag w) (tagOf a) ≡ t → eqb (w % 2 ^ 21) own ≡ (v && t)
+      go true v true t = eq-eqb (w % 2 ^ 21) own (omega (arith, eqb-true))
+      go true v false t = ne-eqb (w % 2 ^ 21) own (λ e. eqb-false (wordTag w) (tagOf a) t (omega arith))
+      go false v t u = ne-eqb (w % 2 ^ 21) own (λ e. eqb-false (fieldOf w 20 20) 1 v (omega arith))
 
 -- a TagLo that is stored loads back its tag, and the state of a valid line or 0
 pub tag-lo-back : (state t : ℕ) → tagLoOf state (storedOf state t) ≡ fieldOf t 27 8 * 2 ^ 8 + cond (eqb (fieldOf t 7 6) state) state 0 * 2 ^ 6

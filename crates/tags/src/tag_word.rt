@@ -6,14 +6,11 @@ ghost use Prim.Native.Nat.{_<_, _^_};
 ghost use Rattle.tags.specs.Words.{tagOf, wordTag, isValid, isDirty, wordOf, hitOf, leavesOf, displacedOf, flushedWord, tagLoOf, storedOf, invalidated};
 ghost use Rattle.tags.specs.Places.{residentOf};
 
-// Does the line with this word hold the address?
+// Does the line with this word hold the address? Below the dirty flag the word is then that of a line which the address has taken.
 pub fn is_hit(word: u32, addr: u32) -> bool
     ensures { λ r. ⌜ r ≡ hitOf word addr ⌝ }
 {
-    if valid(word) {
-        return tag(word) == tag_of(addr);
-    }
-    false
+    word % 0x20_0000 == taken(addr, false)
 }
 
 // Has the line bytes that memory does not? Then it is written back when it goes.
