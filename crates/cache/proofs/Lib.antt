@@ -2,3 +2,6 @@ pub mod PartLaws
 pub mod Contents
 pub mod OneToOne
 pub mod Unique
+pub mod Telling
+pub mod Keeping
+pub mod Running

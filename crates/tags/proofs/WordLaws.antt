@@ -7,7 +7,7 @@ use lib.Dec.{eqb}
 use borrow.Author.Tests.{eq-eqb, ne-eqb, eqb-true, eqb-false}
 use Rattle.bits.specs.Field.{fieldOf, bit}
 use Rattle.bits.proofs.FieldLaws.{field-lt, bit-undone}
-use Rattle.tags.specs.Words.{tagOf, wordTag, isValid, isDirty, wordOf, hitOf, tagLoOf, storedOf}
+use Rattle.tags.specs.Words.{tagOf, wordTag, isValid, isDirty, wordOf, hitOf, flushedWord, tagLoOf, storedOf}
 
 pub bit-le : (b : Bool) → bit b ≤ 1
 bit-le true = omega arith
@@ -56,3 +56,16 @@ tag-lo-back state t =
     ap₂ (λ (x : ℕ) (b : Bool). x * 2 ^ 8 + cond b state 0 * 2 ^ 6)
     (tag-back (fieldOf t 27 8) v false (field-lt t 27 8))
     (valid-back (fieldOf t 27 8) v false (field-lt t 27 8))
+
+-- no word that is written has a bit from 22 up
+pub word-low : (t : ℕ) (v d : Bool) → t < 2 ^ 20 → wordOf t v d < 2 ^ 22
+word-low t v d h = omega (arith, bit-le v, bit-le d)
+
+pub flushed-low : (w : ℕ) (invalidate clean : Bool) → w < 2 ^ 22 → flushedWord w invalidate clean < 2 ^ 22
+flushed-low w true clean h = word-low (wordTag w) false false (field-lt w 19 0)
+flushed-low w false true h = word-low (wordTag w) (isValid w) false (field-lt w 19 0)
+flushed-low w false false h = h
+
+pub stored-low : (state t : ℕ) → storedOf state t < 2 ^ 22
+unfolding storedOf
+stored-low state t = word-low (fieldOf t 27 8) (eqb (fieldOf t 7 6) state) false (field-lt t 27 8)
