@@ -25,4 +25,6 @@ pub mod Advancing
 pub mod Steps
 pub mod Beside
 pub mod Calls
+pub mod CacheSteps
+pub mod CacheRuns
 pub mod Rooms
