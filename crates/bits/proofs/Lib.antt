@@ -1,4 +1,5 @@
 pub mod Same
+pub mod Choices
 pub mod FieldLaws
 pub mod MaskLaws
 pub mod UnderLaws

@@ -9,6 +9,7 @@ use lib.Dec.{eqb, leb}
 use lib.ListN.{length, set, replicate, length-set, length-replicate, length-drop}
 use lib.Seq.{paste, length-paste}
 use borrow.Author.Tests.{eqb-true, eqb-false}
+use Rattle.bits.proofs.Choices.{either}
 use Rattle.bits.specs.Told.{Told, refused}
 use Rattle.bits.proofs.FieldLaws.{field-lt}
 use Rattle.tags.specs.Words.{tagOf, wordTag, isValid, wordOf, hitOf, leavesOf, displacedOf, invalidated, flushedWord, storedOf}
@@ -25,7 +26,7 @@ use Rattle.cache.specs.Instruction.{wordTold, invalidateTags, hitInvalid
 use Rattle.cache.specs.Step.{Cache, dcache, icache, sizeOf, capacityOf, stateOf, Op, new, hits, install, load-tag, store-tag, resident-addr, miss-plan, read, write, flush-index, create-dirty-exclusive, read-word, invalidate-index, hit-invalidate, flush-hit, Parts, lent, Outcome, outcome, stepOf}
 use Rattle.cache.specs.Within.{Whole, Low, Keeps, Typed}
 use Rattle.cache.proofs.PartLaws.{both, lengths, line-inside}
-use Rattle.cache.proofs.Telling.{either, access}
+use Rattle.cache.proofs.Telling.{access}
 
 -- a word replaced by one that is low, and zeros
 set-low : (ws : List ℕ) (i w : ℕ) → Low ws → w < 2 ^ 22 → Low (set ws i w)

@@ -1,19 +1,16 @@
--- What holds of whatever can be told holds of what is told: by a test, by the tests of an access, and in a read and a write.
-use mathlib.Core.Bool.{Bool, true, false, _&&_, cond}
+-- What holds of whatever can be told holds of what is told: by the tests of an access, and in a read and a write.
+use mathlib.Core.Bool.{_&&_, cond}
 use mathlib.Core.List.{List, [], _∷_}
 use Prim.Native.Nat.{ℕ, _+_, _%_}
 use lib.Dec.{eqb, leb}
 use lib.ListN.{length, take, drop}
 use Rattle.bits.specs.Told.{Told, answered, refused}
+use Rattle.bits.proofs.Choices.{either}
 use Rattle.tags.specs.Places.{placeOf}
 use Rattle.lines.specs.Access.{accessRefusal}
 use Rattle.lines.specs.Bytes.{bigEndian}
 use Rattle.cache.specs.Answers.{nothing}
 use Rattle.cache.specs.Data.{fits, readTold, writeTold}
-
-pub either : {A : Type 0} (P : A → Type 0) (b : Bool) {x y : A} → P x → P y → P (cond b x y)
-either P true p q = p
-either P false p q = q
 
 -- an access is allowed, or refused by 2 or by 3
 pub access : (P : ℕ → Type 0) (a len : ℕ) → P 0 → P 2 → P 3 → P (accessRefusal a len)

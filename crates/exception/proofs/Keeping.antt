@@ -1,6 +1,7 @@
 -- What the hardware's setting of a register keeps, an exception and the return from one keep.
 use mathlib.Core.Bool.{Bool}
 use Prim.Native.Nat.{ℕ}
+use Rattle.bits.proofs.Choices.{either}
 use Rattle.cop0.specs.declared.registers.Cop0.{Cop0}
 use Rattle.cop0.specs.File.{setHardwareOf}
 use Rattle.exception.specs.declared.kinds.Exception.{Exception}
@@ -11,7 +12,6 @@ use Rattle.exception.specs.Kinds.{writesBadVaddrOf, vectorKindOf}
 use Rattle.exception.specs.Epilogue.{inHandler, recorded, addressed, handling}
 use Rattle.exception.specs.Taking.{nmiOf, takenOf, dispatchOf}
 use Rattle.exception.specs.Returning.{inError, eretOf}
-use Rattle.exception.proofs.Untouched.{either}
 
 module _ (P : Cop0 → Type 0) (set : (c : Cop0) → P c → (n v : ℕ) → P (setHardwareOf c n v)) where
   pub recorded-by : (c : Cop0) → P c → (e : Exception) (pc : ℕ) (slot : Bool) → P (recorded c e pc slot)

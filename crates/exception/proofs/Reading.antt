@@ -5,6 +5,7 @@ use mathlib.Core.List.{[], _∷_}
 use Prim.Native.Nat.{ℕ, _^_, _<_}
 use native.Mathlib.Omega.{arith}
 use lib.ListN.{length}
+use Rattle.bits.proofs.Choices.{either}
 use Rattle.bits.specs.Field.{withFieldOf, bit}
 use Rattle.bits.specs.Mask.{under}
 use Rattle.bits.proofs.MaskLaws.{under-ones}
@@ -18,7 +19,7 @@ use Rattle.exception.specs.declared.kinds.Exception.{Exception}
 use Rattle.exception.specs.Kinds.{writesBadVaddrOf}
 use Rattle.exception.specs.Epilogue.{causeOf, epcOf, inHandler, contextOf, xcontextOf, entryHiOf, recorded, addressed, handling}
 use Rattle.exception.specs.Taking.{takenOf}
-use Rattle.exception.proofs.Untouched.{either, recorded-only, addressed-only, handling-only}
+use Rattle.exception.proofs.Untouched.{recorded-only, addressed-only, handling-only}
 
 -- the values of the registers lie under their masks
 module _ (c : Cop0) where

@@ -1,8 +1,9 @@
 -- What exceptions leave alone: none touches Count, Compare or the clock.
 use mathlib.Core.Path.{_≡_, refl}
-use mathlib.Core.Bool.{Bool, true, false, cond}
+use mathlib.Core.Bool.{Bool, true}
 use mathlib.Core.List.{List, [], _∷_}
 use Prim.Native.Nat.{ℕ}
+use Rattle.bits.proofs.Choices.{either}
 use Rattle.cop0.specs.declared.registers.Cop0.{Cop0}
 use Rattle.cop0.specs.Registers.{Context, BadVAddr, EntryHi, Status, Cause, EPC, XContext, ErrorEPC, among}
 use Rattle.cop0.specs.Clock.{countOf, compareOf}
@@ -17,11 +18,6 @@ use Rattle.exception.specs.Kinds.{writesBadVaddrOf, vectorKindOf}
 use Rattle.exception.specs.Epilogue.{inHandler, recorded, addressed, handling}
 use Rattle.exception.specs.Taking.{nmiOf, takenOf, dispatchOf}
 use Rattle.exception.specs.Returning.{inError, eretOf}
-
--- what holds of both answers holds of the one that is chosen
-pub either : {A : Type 0} (P : A → Type 0) (b : Bool) {x y : A} → P x → P y → P (cond b x y)
-either P true px py = px
-either P false px py = py
 
 -- the cause and where to return to
 pub recorded-only : {ns : List ℕ} {c d : Cop0} → Only ns c d → among ns Cause ≡ true → among ns EPC ≡ true

@@ -9,6 +9,7 @@ use lib.ListN.{length}
 use contract.Lifetimes as Lifetimes
 use borrow.Fn.World as World
 use borrow.Author.Tests.{eq-eqb}
+use Rattle.bits.proofs.Choices.{either}
 use Rattle.bits.specs.Field.{bit}
 use Rattle.bits.specs.Told.{Told, answered, refused}
 use Rattle.bits.proofs.FieldLaws.{bit-undone}
@@ -18,7 +19,7 @@ use Rattle.cache.specs.Both.{sized, hitsTold, loadTold, residentTold, tagsTold,
 use Rattle.cache.specs.Data.{plannedOf, planTold, readTold, writeTold, flushTold, createTold, displaced, leaves}
 use Rattle.cache.specs.Instruction as instruction
 use Rattle.cache.specs.Step.{Cache, dcache, icache, Op, new, hits, install, load-tag, store-tag, resident-addr, miss-plan, read, write, flush-index, create-dirty-exclusive, read-word, invalidate-index, hit-invalidate, flush-hit, Parts, lent, Outcome, outcome, stepOf}
-use Rattle.cache.proofs.Telling.{either, read-told, write-told}
+use Rattle.cache.proofs.Telling.{read-told, write-told}
 use Rattle.rimjhodek.specs.declared.answers.Flag.{Flag}
 use Rattle.rimjhodek.specs.declared.answers.Number.{Number}
 use Rattle.rimjhodek.specs.declared.answers.Plan.{Plan}

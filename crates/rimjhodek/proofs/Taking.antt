@@ -1,5 +1,5 @@
 -- Exceptions in words: each step goes on from the words that the one before made.
-use mathlib.Core.Path.{_≡_, refl, sym, ap, _∙_}
+use mathlib.Core.Path.{_≡_, refl, sym, _∙_}
 use mathlib.Core.Bool.{Bool, true, false, cond}
 use mathlib.Core.List.{List, [], _∷_}
 use Prim.Native.Nat.{ℕ}
@@ -23,33 +23,37 @@ use Rattle.exception.proofs.Keeping.{recorded-by, addressed-by}
 use Rattle.rimjhodek.specs.declared.exceptions.Exc.{Exc}
 use Rattle.rimjhodek.specs.Registers.{cop0In, putIn}
 use Rattle.rimjhodek.specs.Exceptions.{exceptionOf, dispatchValues, takenOf}
-use Rattle.rimjhodek.proofs.Meaning.{Fits, in-fits, home, again, in-put, rest-put}
+use Rattle.rimjhodek.proofs.Meaning.{rest-none, Fits, in-fits, Holds, onto, held}
 use Rattle.rimjhodek.proofs.Fitting.{reg-fits}
 
--- words ws′ that are a record put into ws
-pub record Put (ws ws′ : List ℕ) (c : Cop0) : Type 0 where
-  pub put : ws′ ≡ putIn ws c
+-- words ws′ that hold a record which fits
+pub record Made (ws ws′ : List ℕ) (c : Cop0) : Type 0 where
+  pub holds : Holds ws ws′ c
   pub fits : Fits c
 
-pub put-none : (ws : List ℕ) → length ws ≡ 38 → Put ws ws (cop0In ws)
-put-none ws long = record { put = sym (home ws long); fits = in-fits ws long }
+pub made-none : (ws : List ℕ) → length ws ≡ 38 → Made ws ws (cop0In ws)
+made-none ws long = record { holds = record { meant = refl; rest = rest-none ws }; fits = in-fits ws long }
 
--- and one step more
-then : {ws ws′ : List ℕ} {c : Cop0} → Put ws ws′ c → (op : Cop0 → Cop0) (ws″ : List ℕ) → ws″ ≡ putIn ws′ (op (cop0In ws′)) → ws″ ≡ putIn ws (op c)
-then {ws} {ws′} {c} p op ws″ e =
-    e
-    ∙ ap (λ (l : List ℕ). putIn l (op (cop0In l))) (p .put)
-    ∙ ap (λ (d : Cop0). putIn (putIn ws c) (op d)) (in-put ws c (p .fits))
-    ∙ again (rest-put ws c (p .fits)) (op c)
+-- and one operation more
+made-by : {ws ws′ : List ℕ} {c : Cop0} → Made ws ws′ c → (op : Cop0 → Cop0) → Fits (op c) → (ws″ : List ℕ)
+    → ws″ ≡ putIn ws′ (op (cop0In ws′)) → Made ws ws″ (op c)
+made-by m op f ws″ e = record { holds = held (m .holds) op ws″ e f; fits = f }
 
 hardware-fits : (c : Cop0) → Fits c → (n v : ℕ) → Fits (setHardwareOf c n v)
 unfolding setHardwareOf
 hardware-fits c f n v = reg-fits f _ _
 
--- a register set by the hardware
-pub put-set : {ws ws′ : List ℕ} {c : Cop0} → Put ws ws′ c → (n v : ℕ) (ws″ : List ℕ) → ws″ ≡ putIn ws′ (setHardwareOf (cop0In ws′) n v)
-    → Put ws ws″ (setHardwareOf c n v)
-put-set p n v ws″ e = record { put = then p (λ (d : Cop0). setHardwareOf d n v) ws″ e; fits = hardware-fits _ (p .fits) n v }
+-- a register set by the hardware, and the last one
+module _ {ws ws′ : List ℕ} {c : Cop0} (m : Made ws ws′ c) (n v : ℕ)
+    (ws″ : List ℕ) (e : ws″ ≡ putIn ws′ (setHardwareOf (cop0In ws′) n v)) where
+  abbrev op : Cop0 → Cop0
+  op d = setHardwareOf d n v
+
+  pub made-set : Made ws ws″ (setHardwareOf c n v)
+  made-set = made-by m op (hardware-fits c (m .fits) n v) ws″ e
+
+  pub set-last : ws″ ≡ putIn ws (setHardwareOf c n v)
+  set-last = onto (m .holds) op ws″ e
 
 -- an exception that is no NMI
 module _ (ws : List ℕ) (exc : Exception) (pc : ℕ) (slot : Bool) (bad : ℕ) (proper : isReset (vectorKindOf exc) ≡ false) where
@@ -63,24 +67,23 @@ module _ (ws : List ℕ) (exc : Exception) (pc : ℕ) (slot : Bool) (bad : ℕ) 
   told s k es ek = rw (proper, es, kind-one k (vectorKindOf exc) ek)
 
   module _ (long : length ws ≡ 38) (ws₁ : List ℕ) (e₁ : ws₁ ≡ putIn ws (recorded c exc pc slot)) where
-    caused : Put ws ws₁ (recorded c exc pc slot)
-    caused = record { put = e₁; fits = recorded-by Fits hardware-fits c (in-fits ws long) exc pc slot }
+    caused : Made ws ws₁ (recorded c exc pc slot)
+    caused =
+        made-by (made-none ws long) (λ (d : Cop0). recorded d exc pc slot)
+        (recorded-by Fits hardware-fits c (in-fits ws long) exc pc slot) ws₁ e₁
 
     pub faulted : writesBadVaddrOf exc ≡ true → (ws₂ ws₃ : List ℕ) → ws₂ ≡ putIn ws₁ (addressed (cop0In ws₁) bad)
         → ws₃ ≡ putIn ws₂ (handling (cop0In ws₂)) → ws₃ ≡ putIn ws (dispatchOf c exc pc slot bad .cop0)
     unfolding dispatchOf taking.takenOf
     faulted has ws₂ ws₃ e₂ e₃ =
-        let p : Put ws ws₂ (addressed (recorded c exc pc slot) bad) =
-        record {
-          put = then caused (λ (d : Cop0). addressed d bad) ws₂ e₂;
-          fits = addressed-by Fits hardware-fits _ (caused .fits) bad;
-        } in
-        rw (proper, has) (then p handling ws₃ e₃)
+        let f = addressed-by Fits hardware-fits _ (caused .fits) bad in
+        let m = made-by caused (λ (d : Cop0). addressed d bad) f ws₂ e₂ in
+        rw (proper, has) (onto (m .holds) handling ws₃ e₃)
 
     pub unfaulted : writesBadVaddrOf exc ≡ false → (ws₂ : List ℕ) → ws₂ ≡ putIn ws₁ (handling (cop0In ws₁))
         → ws₂ ≡ putIn ws (dispatchOf c exc pc slot bad .cop0)
     unfolding dispatchOf taking.takenOf
-    unfaulted has ws₂ e₂ = rw (proper, has) (then caused handling ws₂ e₂)
+    unfaulted has ws₂ e₂ = rw (proper, has) (onto (caused .holds) handling ws₂ e₂)
 
 -- NMI is known by its vector's number
 numbered : (k : VectorKind) → eqb (kindNumber k) 3 ≡ isReset k
@@ -96,7 +99,7 @@ module _ (n : ℕ) (k k′ : VectorKind) (en : n ≡ kindNumber k) (ek : kindNum
   pub not-reset : (n ≡ 3 → ⊥) → isReset k′ ≡ false
   not-reset h = sym (numbered k′) ∙ ne-eqb (kindNumber k′) 3 (λ q. h (en ∙ ek ∙ q))
 
--- and a refill by the exception's, whatever it holds
+-- and a refill by its own, whatever it holds: it has a faulting address
 module _ (e : Exc) (exc : Exception) (made : exc ≡ exceptionOf e) (refill : e .number ≡ 10) where
   pub refill-proper : isReset (vectorKindOf exc) ≡ false
   unfolding exceptionOf

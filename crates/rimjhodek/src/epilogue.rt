@@ -2,7 +2,7 @@
 ghost use mathlib.Core.Path.{_≡_};
 ghost use Rattle.exception.specs.Epilogue.{recorded, addressed, handling};
 ghost use Rattle.rimjhodek.specs.Registers.{cop0In, putIn};
-use crate::registers::rimjhodek_dmfc0;
+use crate::registers::read;
 use crate::registers::rimjhodek_set_hardware;
 use crate::words::sized;
 use cop0::Cop0;
@@ -30,8 +30,8 @@ pub(crate) fn record(cop0: &mut [u64; 38], exc: Exception, pc: u64, in_delay_slo
     ensures { λ _. ⌜ now (cop0 .exit) ≡ putIn (now (cop0 .entry)) (recorded (cop0In (now (cop0 .entry))) exc pc «in_delay_slot») ⌝ }
 {
     sized(*cop0);
-    let new_cause = exception::cause(rimjhodek_dmfc0(cop0, CAUSE), exc);
-    if bits::field(rimjhodek_dmfc0(cop0, STATUS), 1, 1) == 1 {
+    let new_cause = exception::cause(read(cop0, CAUSE), exc);
+    if bits::field(read(cop0, STATUS), 1, 1) == 1 {
         rimjhodek_set_hardware(cop0, CAUSE, new_cause);
         return;
     }
@@ -48,9 +48,9 @@ pub(crate) fn record_address(cop0: &mut [u64; 38], bad_vaddr: u64)
     ensures { λ _. ⌜ now (cop0 .exit) ≡ putIn (now (cop0 .entry)) (addressed (cop0In (now (cop0 .entry))) «bad_vaddr») ⌝ }
 {
     sized(*cop0);
-    let new_context = exception::context(rimjhodek_dmfc0(cop0, CONTEXT), bad_vaddr);
-    let new_xcontext = exception::xcontext(rimjhodek_dmfc0(cop0, XCONTEXT), bad_vaddr);
-    let new_entry_hi = exception::entry_hi(rimjhodek_dmfc0(cop0, ENTRY_HI), bad_vaddr);
+    let new_context = exception::context(read(cop0, CONTEXT), bad_vaddr);
+    let new_xcontext = exception::xcontext(read(cop0, XCONTEXT), bad_vaddr);
+    let new_entry_hi = exception::entry_hi(read(cop0, ENTRY_HI), bad_vaddr);
     rimjhodek_set_hardware(cop0, BAD_VADDR, bad_vaddr);
     rimjhodek_set_hardware(cop0, CONTEXT, new_context);
     rimjhodek_set_hardware(cop0, XCONTEXT, new_xcontext);
@@ -61,6 +61,6 @@ pub(crate) fn record_address(cop0: &mut [u64; 38], bad_vaddr: u64)
 pub(crate) fn enter(cop0: &mut [u64; 38])
     ensures { λ _. ⌜ now (cop0 .exit) ≡ putIn (now (cop0 .entry)) (handling (cop0In (now (cop0 .entry)))) ⌝ }
 {
-    let status = rimjhodek_dmfc0(cop0, STATUS);
+    let status = read(cop0, STATUS);
     rimjhodek_set_hardware(cop0, STATUS, bits::with_field(status, 1, 1, 1));
 }

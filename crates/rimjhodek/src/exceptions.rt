@@ -20,7 +20,7 @@ use crate::epilogue::enter;
 use crate::epilogue::record;
 use crate::epilogue::record_address;
 use crate::refusals::UNKNOWN;
-use crate::registers::rimjhodek_dmfc0;
+use crate::registers::read;
 use crate::registers::rimjhodek_set_hardware;
 use crate::words::sized;
 use exception::EPILOGUE_STALL;
@@ -78,7 +78,7 @@ pub extern "C" fn rimjhodek_nmi(cop0: &mut [u64; 38], pc: u64) -> Taken
         × (now (cop0 .exit) ≡ putIn (now (cop0 .entry)) (nmiOf (cop0In (now (cop0 .entry))) pc .cop0)) ⌝ }
 {
     sized(*cop0);
-    let status = rimjhodek_dmfc0(cop0, STATUS);
+    let status = read(cop0, STATUS);
     rimjhodek_set_hardware(cop0, ERROR_EPC, pc);
     rimjhodek_set_hardware(cop0, STATUS, exception::nmi_status(status));
     taking(exception::vector(status, VectorKind::Reset), EPILOGUE_STALL)
@@ -90,13 +90,13 @@ pub extern "C" fn rimjhodek_eret(cop0: &mut [u64; 38]) -> u64
     ensures { λ r. ⌜ (r ≡ eretOf (cop0In (now (cop0 .entry))) .pc)
         × (now (cop0 .exit) ≡ putIn (now (cop0 .entry)) (eretOf (cop0In (now (cop0 .entry))) .cop0)) ⌝ }
 {
-    let status = rimjhodek_dmfc0(cop0, STATUS);
+    let status = read(cop0, STATUS);
     if bits::field(status, 2, 2) == 1 {
-        let pc = rimjhodek_dmfc0(cop0, ERROR_EPC);
+        let pc = read(cop0, ERROR_EPC);
         rimjhodek_set_hardware(cop0, STATUS, bits::with_field(status, 2, 2, 0));
         return pc;
     }
-    let pc = rimjhodek_dmfc0(cop0, EPC);
+    let pc = read(cop0, EPC);
     rimjhodek_set_hardware(cop0, STATUS, bits::with_field(status, 1, 1, 0));
     pc
 }
@@ -172,7 +172,8 @@ fn dispatch(
 ) -> Taken
     ensures { λ r. ⌜ (r ≡ takenOf (answered (dispatchValues
         (dispatchOf (cop0In (now (cop0 .entry))) exc pc «in_delay_slot» «bad_vaddr» .dispatch))))
-        × (now (cop0 .exit) ≡ putIn (now (cop0 .entry)) (dispatchOf (cop0In (now (cop0 .entry))) exc pc «in_delay_slot» «bad_vaddr» .cop0)) ⌝ }
+        × (now (cop0 .exit) ≡ putIn (now (cop0 .entry))
+        (dispatchOf (cop0In (now (cop0 .entry))) exc pc «in_delay_slot» «bad_vaddr» .cop0)) ⌝ }
 {
     sized(*cop0);
     let kind = exception::vector_kind_of(exc);
@@ -180,7 +181,7 @@ fn dispatch(
     if kind_number(kind) == 3 {
         return rimjhodek_nmi(cop0, pc);
     }
-    let vector = exception::vector(rimjhodek_dmfc0(cop0, STATUS), kind);
+    let vector = exception::vector(read(cop0, STATUS), kind);
     record(cop0, exc, pc, in_delay_slot);
     if exception::writes_bad_vaddr(exc) {
         record_address(cop0, bad_vaddr);
@@ -196,12 +197,13 @@ fn refill(cop0: &mut [u64; 38], exc: Exc, pc: u64, in_delay_slot: bool, bad_vadd
     requires { ⌜ exc .number ≡ 10 ⌝ }
     ensures { λ r. ⌜ (r ≡ takenOf (answered (dispatchValues
         (dispatchOf (cop0In (now (cop0 .entry))) (exceptionOf exc) pc «in_delay_slot» «bad_vaddr» .dispatch))))
-        × (now (cop0 .exit) ≡ putIn (now (cop0 .entry)) (dispatchOf (cop0In (now (cop0 .entry))) (exceptionOf exc) pc «in_delay_slot» «bad_vaddr» .cop0)) ⌝ }
+        × (now (cop0 .exit) ≡ putIn (now (cop0 .entry))
+        (dispatchOf (cop0In (now (cop0 .entry))) (exceptionOf exc) pc «in_delay_slot» «bad_vaddr» .cop0)) ⌝ }
 {
     sized(*cop0);
     let refill = exception_of(exc);
     let kind = exception::vector_kind_of(refill);
-    let vector = exception::vector(rimjhodek_dmfc0(cop0, STATUS), kind);
+    let vector = exception::vector(read(cop0, STATUS), kind);
     record(cop0, refill, pc, in_delay_slot);
     record_address(cop0, bad_vaddr);
     enter(cop0);

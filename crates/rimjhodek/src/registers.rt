@@ -1,5 +1,6 @@
 // The register file as 38 words: 32 registers, now, the epoch's value and tick, the last-asked Count, EC, the latch.
 ghost use mathlib.Core.Path.{_≡_};
+ghost use mathlib.Core.Bool.{false};
 ghost use Prim.Native.Nat.{_<_, _%_};
 ghost use lib.ListN.{getD, set};
 ghost use Rattle.bits.specs.Extension.{low32Of};
@@ -7,7 +8,7 @@ ghost use Rattle.bits.specs.Mask.{merged};
 ghost use Rattle.cop0.specs.Registers.{named, unused, wide, writeMask};
 ghost use Rattle.cop0.specs.Record.{fresh};
 ghost use Rattle.cop0.specs.Clock.{countAt, countOf, asked};
-ghost use Rattle.cop0.specs.File.{besides, writeOf, setHardwareOf};
+ghost use Rattle.cop0.specs.File.{besides, readAt, writeOf, setHardwareOf};
 ghost use Rattle.cop0.specs.Access.{mfc0Of, dmfc0Of, moved32, mtc0Of, dmtc0Of, fromRsOf};
 ghost use Rattle.rimjhodek.specs.Registers.{cop0In, putIn, cop0Words, isSpecial, specialOf, isWatched, formOf};
 use crate::answers::Number;
@@ -41,8 +42,7 @@ pub extern "C" fn rimjhodek_dmfc0(cop0: &[u64; 38], n: u32) -> u64
     if is_special(k) {
         return special(cop0, k);
     }
-    let i = k as usize;
-    cop0[i] & masks::arch_mask(k)
+    read(cop0, k)
 }
 
 // `MFC0 rt, rd`.
@@ -54,8 +54,16 @@ pub extern "C" fn rimjhodek_mfc0(cop0: &[u64; 38], n: u32) -> u64
     if is_special(k) {
         return bits::sign_extend(bits::low32(special(cop0, k)));
     }
+    bits::sign_extend(bits::low32(read(cop0, k)))
+}
+
+// Register `k`, of those that read nothing but their own bits under a mask.
+pub(crate) fn read(cop0: &[u64; 38], k: u32) -> u64
+    requires { ⌜ (k < 32) × (isSpecial k ≡ false) ⌝ }
+    ensures { λ r. ⌜ r ≡ readAt (cop0In (now (cop0 .entry))) k ⌝ }
+{
     let i = k as usize;
-    bits::sign_extend(bits::low32(cop0[i] & masks::arch_mask(k)))
+    cop0[i] & masks::arch_mask(k)
 }
 
 // Does register `k` read something else than its own bits under a mask? One test on the common way.

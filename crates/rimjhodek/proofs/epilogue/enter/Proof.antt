@@ -1,12 +1,15 @@
 -- Status is read and set.
-use mathlib.Core.Path.{_∙_}
+use mathlib.Core.Path.{refl, _∙_}
+use Rattle.cop0.specs.Registers.{among}
 use Rattle.exception.specs.Epilogue.{handling}
 use borrow.Author.Needs.{needs}
+use Rattle.rimjhodek.specs.Registers.{isSpecial}
 use Rattle.rimjhodek.proofs.epilogue.enter.Statement.{statement}
 use Rattle.rimjhodek.proofs.epilogue.enter.Tie as tie
 
-rimjhodek-dmfc0-requires : tie.Need-rimjhodek-dmfc0-requires
-rimjhodek-dmfc0-requires c κs = search needs
+read-requires : tie.Need-read-requires
+unfolding isSpecial among
+read-requires c κs = (search needs, refl)
 
 with-field-requires : tie.Need-with-field-requires
 with-field-requires c κs = search needs
@@ -18,9 +21,9 @@ returns : tie.Need-returns
 unfolding handling
 returns c =
     c .rimjhodek-set-hardware .ensures
-    ∙ rw (c .before .with-field .ensures, c .before .before .before .rimjhodek-dmfc0 .ensures)
+    ∙ rw (c .before .with-field .ensures, c .before .before .before .read .ensures)
 
 pub enter-spec : {M : Type 1} → statement M
 enter-spec =
     tie.close
-    (tie.spec rimjhodek-dmfc0-requires with-field-requires rimjhodek-set-hardware-requires returns)
+    (tie.spec read-requires with-field-requires rimjhodek-set-hardware-requires returns)

@@ -1,9 +1,10 @@
 -- By EXL: Cause alone, or EPC and then Cause.
-use mathlib.Core.Path.{_∙_}
+use mathlib.Core.Path.{refl, _∙_}
 use borrow.Author.Tests.{eq-eqb, ne-eqb}
-use Rattle.cop0.specs.Registers.{Cause, EPC}
+use Rattle.cop0.specs.Registers.{Cause, EPC, among}
 use Rattle.exception.specs.Epilogue.{recorded}
-use Rattle.rimjhodek.proofs.Taking.{put-none, put-set}
+use Rattle.rimjhodek.specs.Registers.{isSpecial}
+use Rattle.rimjhodek.proofs.Taking.{made-none, made-set, set-last}
 use borrow.Author.Needs.{needs}
 use Rattle.rimjhodek.proofs.epilogue.record.Statement.{statement}
 use Rattle.rimjhodek.proofs.epilogue.record.Tie as tie
@@ -11,14 +12,16 @@ use Rattle.rimjhodek.proofs.epilogue.record.Tie as tie
 sized-requires : tie.Need-sized-requires
 sized-requires c κs = search needs
 
-rimjhodek-dmfc0-requires : tie.Need-rimjhodek-dmfc0-requires
-rimjhodek-dmfc0-requires c κs = search needs
+read-requires : tie.Need-read-requires
+unfolding isSpecial among
+read-requires c κs = (search needs, refl)
 
 cause-requires : tie.Need-cause-requires
 cause-requires c κs = search needs
 
-rimjhodek-dmfc0-requires-2 : tie.Need-rimjhodek-dmfc0-requires-2
-rimjhodek-dmfc0-requires-2 c κs = search needs
+read-requires-2 : tie.Need-read-requires-2
+unfolding isSpecial among
+read-requires-2 c κs = (search needs, refl)
 
 field-requires : tie.Need-field-requires
 field-requires c κs = search needs
@@ -35,8 +38,8 @@ returns c =
     c .rimjhodek-set-hardware .ensures
     ∙ rw (
       k .cause .ensures,
-      k .before .rimjhodek-dmfc0 .ensures,
-      ← f .before .rimjhodek-dmfc02 .ensures,
+      k .before .read .ensures,
+      ← f .before .read2 .ensures,
       ← f .field .ensures,
       eq-eqb _ _ (b .if1 .taken),
     )
@@ -65,14 +68,14 @@ returns-2 c =
     let f = b .before in
     let k = f .before .before .before in
     let z = k .before .before .before in
-    let start = put-none (z .before .before .args .cop0 .now) (z .sized .ensures) in
-    put-set (put-set start EPC _ _ (s .rimjhodek-set-hardware2 .ensures)) Cause _ _ (c .rimjhodek-set-hardware3 .ensures) .put
+    let start = made-none (z .before .before .args .cop0 .now) (z .sized .ensures) in
+    set-last (made-set start EPC _ _ (s .rimjhodek-set-hardware2 .ensures)) Cause _ _ (c .rimjhodek-set-hardware3 .ensures)
     ∙ rw (
       s .before .epc .ensures,
       w .with-field .ensures,
       k .cause .ensures,
-      k .before .rimjhodek-dmfc0 .ensures,
-      ← f .before .rimjhodek-dmfc02 .ensures,
+      k .before .read .ensures,
+      ← f .before .read2 .ensures,
       ← f .field .ensures,
       ne-eqb _ _ (b .if1 .left),
     )
@@ -82,9 +85,9 @@ record-spec =
     tie.close
     (tie.spec
     sized-requires
-    rimjhodek-dmfc0-requires
+    read-requires
     cause-requires
-    rimjhodek-dmfc0-requires-2
+    read-requires-2
     field-requires
     rimjhodek-set-hardware-requires
     returns

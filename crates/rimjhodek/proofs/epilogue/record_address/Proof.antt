@@ -1,8 +1,9 @@
 -- Three registers are read, and four set.
-use mathlib.Core.Path.{_∙_}
-use Rattle.cop0.specs.Registers.{Context, BadVAddr, EntryHi, XContext}
+use mathlib.Core.Path.{refl, _∙_}
+use Rattle.cop0.specs.Registers.{Context, BadVAddr, EntryHi, XContext, among}
 use Rattle.exception.specs.Epilogue.{addressed}
-use Rattle.rimjhodek.proofs.Taking.{put-none, put-set}
+use Rattle.rimjhodek.specs.Registers.{isSpecial}
+use Rattle.rimjhodek.proofs.Taking.{made-none, made-set, set-last}
 use borrow.Author.Needs.{needs}
 use Rattle.rimjhodek.proofs.epilogue.record_address.Statement.{statement}
 use Rattle.rimjhodek.proofs.epilogue.record_address.Tie as tie
@@ -10,20 +11,23 @@ use Rattle.rimjhodek.proofs.epilogue.record_address.Tie as tie
 sized-requires : tie.Need-sized-requires
 sized-requires c κs = search needs
 
-rimjhodek-dmfc0-requires : tie.Need-rimjhodek-dmfc0-requires
-rimjhodek-dmfc0-requires c κs = search needs
+read-requires : tie.Need-read-requires
+unfolding isSpecial among
+read-requires c κs = (search needs, refl)
 
 context-requires : tie.Need-context-requires
 context-requires c κs = search needs
 
-rimjhodek-dmfc0-requires-2 : tie.Need-rimjhodek-dmfc0-requires-2
-rimjhodek-dmfc0-requires-2 c κs = search needs
+read-requires-2 : tie.Need-read-requires-2
+unfolding isSpecial among
+read-requires-2 c κs = (search needs, refl)
 
 xcontext-requires : tie.Need-xcontext-requires
 xcontext-requires c κs = search needs
 
-rimjhodek-dmfc0-requires-3 : tie.Need-rimjhodek-dmfc0-requires-3
-rimjhodek-dmfc0-requires-3 c κs = search needs
+read-requires-3 : tie.Need-read-requires-3
+unfolding isSpecial among
+read-requires-3 c κs = (search needs, refl)
 
 entry-hi-requires : tie.Need-entry-hi-requires
 entry-hi-requires c κs = search needs
@@ -50,18 +54,18 @@ returns c =
     let x = h .before .before .before in
     let n = x .before .before .before in
     let z = n .before .before .before in
-    let p₀ = put-none (z .before .before .args .cop0 .now) (z .sized .ensures) in
-    let p₁ = put-set p₀ BadVAddr _ _ (s₁ .rimjhodek-set-hardware .ensures) in
-    let p₂ = put-set p₁ Context _ _ (s₂ .rimjhodek-set-hardware2 .ensures) in
-    let p₃ = put-set p₂ XContext _ _ (s₃ .rimjhodek-set-hardware3 .ensures) in
-    put-set p₃ EntryHi _ _ (c .rimjhodek-set-hardware4 .ensures) .put
+    let m₀ = made-none (z .before .before .args .cop0 .now) (z .sized .ensures) in
+    let m₁ = made-set m₀ BadVAddr _ _ (s₁ .rimjhodek-set-hardware .ensures) in
+    let m₂ = made-set m₁ Context _ _ (s₂ .rimjhodek-set-hardware2 .ensures) in
+    let m₃ = made-set m₂ XContext _ _ (s₃ .rimjhodek-set-hardware3 .ensures) in
+    set-last m₃ EntryHi _ _ (c .rimjhodek-set-hardware4 .ensures)
     ∙ rw (
       h .entry-hi .ensures,
-      h .before .rimjhodek-dmfc03 .ensures,
+      h .before .read3 .ensures,
       x .xcontext .ensures,
-      x .before .rimjhodek-dmfc02 .ensures,
+      x .before .read2 .ensures,
       n .context .ensures,
-      n .before .rimjhodek-dmfc0 .ensures,
+      n .before .read .ensures,
     )
 
 pub record-address-spec : {M : Type 1} → statement M
@@ -69,11 +73,11 @@ record-address-spec =
     tie.close
     (tie.spec
     sized-requires
-    rimjhodek-dmfc0-requires
+    read-requires
     context-requires
-    rimjhodek-dmfc0-requires-2
+    read-requires-2
     xcontext-requires
-    rimjhodek-dmfc0-requires-3
+    read-requires-3
     entry-hi-requires
     rimjhodek-set-hardware-requires
     rimjhodek-set-hardware-requires-2

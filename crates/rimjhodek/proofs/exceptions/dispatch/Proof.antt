@@ -1,7 +1,9 @@
 -- NMI by itself; all others step by step, with and without an address.
-use mathlib.Core.Path.{sym, _∙_}
+use mathlib.Core.Path.{refl, sym, _∙_}
+use Rattle.cop0.specs.Registers.{among}
 use Rattle.exception.specs.Kinds.{vectorKindOf}
 use Rattle.exception.specs.Taking.{dispatchOf}
+use Rattle.rimjhodek.specs.Registers.{isSpecial}
 use Rattle.rimjhodek.proofs.Taking.{is-reset, not-reset, told, faulted, unfaulted}
 use borrow.Author.Needs.{needs}
 use Rattle.rimjhodek.proofs.exceptions.dispatch.Statement.{statement}
@@ -25,11 +27,13 @@ returns c =
     let n = c .before .before .before in
     let k = n .before in
     let a = k .before .before .before .args in
-    rw (is-reset _ (k .vector-kind-of .result) (vectorKindOf (a .exc)) (n .kind-number .ensures) (k .vector-kind-of .ensures) (c .before .before .if1 .taken))
-    (c .rimjhodek-nmi .ensures)
+    let kind = k .vector-kind-of .result in
+    let reset = is-reset _ kind (vectorKindOf (a .exc)) (n .kind-number .ensures) (k .vector-kind-of .ensures) (c .before .before .if1 .taken) in
+    rw reset (c .rimjhodek-nmi .ensures)
 
-rimjhodek-dmfc0-requires : tie.Need-rimjhodek-dmfc0-requires
-rimjhodek-dmfc0-requires c κs = search needs
+read-requires : tie.Need-read-requires
+unfolding isSpecial among
+read-requires c κs = (search needs, refl)
 
 vector-requires : tie.Need-vector-requires
 vector-requires c κs = search needs
@@ -63,9 +67,11 @@ returns-2 c =
     let kind = k .vector-kind-of .result in
     let proper = not-reset _ kind (vectorKindOf (a .exc)) (n .kind-number .ensures) (k .vector-kind-of .ensures) (b .if1 .left) in (
       rw (c .taking .ensures, v .vector .ensures)
-          (told ws (a .exc) (a .pc) (a .in-delay-slot) (a .bad-vaddr) proper _ kind (v .before .rimjhodek-dmfc0 .ensures) (k .vector-kind-of .ensures)),
+          (told ws (a .exc) (a .pc) (a .in-delay-slot) (a .bad-vaddr) proper
+          _ kind (v .before .read .ensures) (k .vector-kind-of .ensures)),
       faulted ws (a .exc) (a .pc) (a .in-delay-slot) (a .bad-vaddr) proper (z .sized .ensures) _ (w .before .record .ensures)
-          (sym (w .writes-bad-vaddr .ensures) ∙ t .if2 .taken) _ _ (c .before .before .before .record-address .ensures) (c .before .enter .ensures),
+          (sym (w .writes-bad-vaddr .ensures) ∙ t .if2 .taken)
+          _ _ (c .before .before .before .record-address .ensures) (c .before .enter .ensures),
     )
 
 enter-requires-2 : tie.Need-enter-requires-2
@@ -88,7 +94,8 @@ returns-3 c =
     let kind = k .vector-kind-of .result in
     let proper = not-reset _ kind (vectorKindOf (a .exc)) (n .kind-number .ensures) (k .vector-kind-of .ensures) (b .if1 .left) in (
       rw (c .taking2 .ensures, v .vector .ensures)
-          (told ws (a .exc) (a .pc) (a .in-delay-slot) (a .bad-vaddr) proper _ kind (v .before .rimjhodek-dmfc0 .ensures) (k .vector-kind-of .ensures)),
+          (told ws (a .exc) (a .pc) (a .in-delay-slot) (a .bad-vaddr) proper
+          _ kind (v .before .read .ensures) (k .vector-kind-of .ensures)),
       unfaulted ws (a .exc) (a .pc) (a .in-delay-slot) (a .bad-vaddr) proper (z .sized .ensures) _ (w .before .record .ensures)
           (sym (w .writes-bad-vaddr .ensures) ∙ t .if2 .left) _ (c .before .enter2 .ensures),
     )
@@ -102,7 +109,7 @@ dispatch-spec =
     kind-number-requires
     rimjhodek-nmi-requires
     returns
-    rimjhodek-dmfc0-requires
+    read-requires
     vector-requires
     record-requires
     writes-bad-vaddr-requires

@@ -1,4 +1,7 @@
 -- Step by step.
+use mathlib.Core.Path.{refl}
+use Rattle.cop0.specs.Registers.{among}
+use Rattle.rimjhodek.specs.Registers.{isSpecial}
 use Rattle.rimjhodek.proofs.Taking.{told, faulted, refill-proper, refill-faults}
 use borrow.Author.Needs.{needs}
 use Rattle.rimjhodek.proofs.exceptions.refill.Statement.{statement}
@@ -13,8 +16,9 @@ exception-of-requires c κs = search needs
 vector-kind-of-requires : tie.Need-vector-kind-of-requires
 vector-kind-of-requires c κs = search needs
 
-rimjhodek-dmfc0-requires : tie.Need-rimjhodek-dmfc0-requires
-rimjhodek-dmfc0-requires c κs = search needs
+read-requires : tie.Need-read-requires
+unfolding isSpecial among
+read-requires c κs = (search needs, refl)
 
 vector-requires : tie.Need-vector-requires
 vector-requires c κs = search needs
@@ -46,9 +50,11 @@ returns c =
     let proper = refill-proper (a .exc) e (x .exception-of .ensures) (s .pre) in
     rw (← x .exception-of .ensures) (
       rw (c .taking .ensures, v .vector .ensures)
-          (told ws e (a .pc) (a .in-delay-slot) (a .bad-vaddr) proper _ kind (v .before .rimjhodek-dmfc0 .ensures) (k .vector-kind-of .ensures)),
+          (told ws e (a .pc) (a .in-delay-slot) (a .bad-vaddr) proper
+          _ kind (v .before .read .ensures) (k .vector-kind-of .ensures)),
       faulted ws e (a .pc) (a .in-delay-slot) (a .bad-vaddr) proper (z .sized .ensures) _ (r .record .ensures)
-          (refill-faults (a .exc) e (x .exception-of .ensures) (s .pre)) _ _ (c .before .before .before .record-address .ensures) (c .before .enter .ensures),
+          (refill-faults (a .exc) e (x .exception-of .ensures) (s .pre))
+          _ _ (c .before .before .before .record-address .ensures) (c .before .enter .ensures),
     )
 
 pub refill-spec : {M : Type 1} → statement M
@@ -58,7 +64,7 @@ refill-spec =
     sized-requires
     exception-of-requires
     vector-kind-of-requires
-    rimjhodek-dmfc0-requires
+    read-requires
     vector-requires
     record-requires
     record-address-requires

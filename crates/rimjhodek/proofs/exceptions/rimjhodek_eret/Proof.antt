@@ -1,19 +1,23 @@
 -- By ERL.
-use mathlib.Core.Path.{_∙_}
+use mathlib.Core.Path.{refl, _∙_}
 use borrow.Author.Tests.{eq-eqb, ne-eqb}
+use Rattle.cop0.specs.Registers.{among}
 use Rattle.exception.specs.Returning.{eretOf}
 use borrow.Author.Needs.{needs}
+use Rattle.rimjhodek.specs.Registers.{isSpecial}
 use Rattle.rimjhodek.proofs.exceptions.rimjhodek_eret.Statement.{statement}
 use Rattle.rimjhodek.proofs.exceptions.rimjhodek_eret.Tie as tie
 
-rimjhodek-dmfc0-requires : tie.Need-rimjhodek-dmfc0-requires
-rimjhodek-dmfc0-requires c κs = search needs
+read-requires : tie.Need-read-requires
+unfolding isSpecial among
+read-requires c κs = (search needs, refl)
 
 field-requires : tie.Need-field-requires
 field-requires c κs = search needs
 
-rimjhodek-dmfc0-requires-2 : tie.Need-rimjhodek-dmfc0-requires-2
-rimjhodek-dmfc0-requires-2 c κs = search needs
+read-requires-2 : tie.Need-read-requires-2
+unfolding isSpecial among
+read-requires-2 c κs = (search needs, refl)
 
 with-field-requires : tie.Need-with-field-requires
 with-field-requires c κs = search needs
@@ -27,13 +31,14 @@ returns c =
     let p = c .before .before .before in
     let b = p .before .before in
     let f = b .before in (
-      rw (← f .before .rimjhodek-dmfc0 .ensures, ← f .field .ensures, eq-eqb _ _ (b .if1 .taken)) (p .rimjhodek-dmfc02 .ensures),
+      rw (← f .before .read .ensures, ← f .field .ensures, eq-eqb _ _ (b .if1 .taken)) (p .read2 .ensures),
       c .rimjhodek-set-hardware .ensures
-          ∙ rw (c .before .with-field .ensures, ← f .before .rimjhodek-dmfc0 .ensures, ← f .field .ensures, eq-eqb _ _ (b .if1 .taken)),
+          ∙ rw (c .before .with-field .ensures, ← f .before .read .ensures, ← f .field .ensures, eq-eqb _ _ (b .if1 .taken)),
     )
 
-rimjhodek-dmfc0-requires-3 : tie.Need-rimjhodek-dmfc0-requires-3
-rimjhodek-dmfc0-requires-3 c κs = search needs
+read-requires-3 : tie.Need-read-requires-3
+unfolding isSpecial among
+read-requires-3 c κs = (search needs, refl)
 
 with-field-requires-2 : tie.Need-with-field-requires-2
 with-field-requires-2 c κs = search needs
@@ -47,22 +52,22 @@ returns-2 c =
     let p = c .before .before .before in
     let b = p .before .before in
     let f = b .before in (
-      rw (← f .before .rimjhodek-dmfc0 .ensures, ← f .field .ensures, ne-eqb _ _ (b .if1 .left)) (p .rimjhodek-dmfc03 .ensures),
+      rw (← f .before .read .ensures, ← f .field .ensures, ne-eqb _ _ (b .if1 .left)) (p .read3 .ensures),
       c .rimjhodek-set-hardware2 .ensures
-          ∙ rw (c .before .with-field2 .ensures, ← f .before .rimjhodek-dmfc0 .ensures, ← f .field .ensures, ne-eqb _ _ (b .if1 .left)),
+          ∙ rw (c .before .with-field2 .ensures, ← f .before .read .ensures, ← f .field .ensures, ne-eqb _ _ (b .if1 .left)),
     )
 
 pub rimjhodek-eret-spec : {M : Type 1} → statement M
 rimjhodek-eret-spec =
     tie.close
     (tie.spec
-    rimjhodek-dmfc0-requires
+    read-requires
     field-requires
-    rimjhodek-dmfc0-requires-2
+    read-requires-2
     with-field-requires
     rimjhodek-set-hardware-requires
     returns
-    rimjhodek-dmfc0-requires-3
+    read-requires-3
     with-field-requires-2
     rimjhodek-set-hardware-requires-2
     returns-2)

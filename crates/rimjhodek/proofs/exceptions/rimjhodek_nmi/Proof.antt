@@ -1,8 +1,9 @@
 -- ErrorEPC and then Status are set.
-use mathlib.Core.Path.{_∙_}
-use Rattle.cop0.specs.Registers.{Status, ErrorEPC}
+use mathlib.Core.Path.{refl, _∙_}
+use Rattle.cop0.specs.Registers.{Status, ErrorEPC, among}
 use Rattle.exception.specs.Taking.{nmiOf}
-use Rattle.rimjhodek.proofs.Taking.{put-none, put-set}
+use Rattle.rimjhodek.specs.Registers.{isSpecial}
+use Rattle.rimjhodek.proofs.Taking.{made-none, made-set, set-last}
 use borrow.Author.Needs.{needs}
 use Rattle.rimjhodek.proofs.exceptions.rimjhodek_nmi.Statement.{statement}
 use Rattle.rimjhodek.proofs.exceptions.rimjhodek_nmi.Tie as tie
@@ -10,8 +11,9 @@ use Rattle.rimjhodek.proofs.exceptions.rimjhodek_nmi.Tie as tie
 sized-requires : tie.Need-sized-requires
 sized-requires c κs = search needs
 
-rimjhodek-dmfc0-requires : tie.Need-rimjhodek-dmfc0-requires
-rimjhodek-dmfc0-requires c κs = search needs
+read-requires : tie.Need-read-requires
+unfolding isSpecial among
+read-requires c κs = (search needs, refl)
 
 rimjhodek-set-hardware-requires : tie.Need-rimjhodek-set-hardware-requires
 rimjhodek-set-hardware-requires c κs = search needs
@@ -35,10 +37,10 @@ returns c =
     let e = s .before .before .before in
     let r = e .before .before in
     let z = r .before .before in
-    let start = put-none (z .before .before .args .cop0 .now) (z .sized .ensures) in (
+    let start = made-none (z .before .before .args .cop0 .now) (z .sized .ensures) in (
       rw (c .taking .ensures, c .before .vector .ensures),
-      put-set (put-set start ErrorEPC _ _ (e .rimjhodek-set-hardware .ensures)) Status _ _ (s .rimjhodek-set-hardware2 .ensures) .put
-          ∙ rw (s .before .nmi-status .ensures, r .rimjhodek-dmfc0 .ensures),
+      set-last (made-set start ErrorEPC _ _ (e .rimjhodek-set-hardware .ensures)) Status _ _ (s .rimjhodek-set-hardware2 .ensures)
+          ∙ rw (s .before .nmi-status .ensures, r .read .ensures),
     )
 
 pub rimjhodek-nmi-spec : {M : Type 1} → statement M
@@ -46,7 +48,7 @@ rimjhodek-nmi-spec =
     tie.close
     (tie.spec
     sized-requires
-    rimjhodek-dmfc0-requires
+    read-requires
     rimjhodek-set-hardware-requires
     nmi-status-requires
     rimjhodek-set-hardware-requires-2

@@ -4,7 +4,7 @@ use Prim.Native.Nat.{ℕ, _%_}
 use native.Mathlib.Omega.{arith}
 use Rattle.bits.specs.Extension.{low32Of, signExtended}
 use Rattle.rimjhodek.specs.Registers.{cop0In}
-use Rattle.rimjhodek.proofs.Reading.{read-special, read-plain}
+use Rattle.rimjhodek.proofs.Reading.{read-special}
 use borrow.Author.Needs.{needs}
 use Rattle.rimjhodek.proofs.registers.rimjhodek_mfc0.Statement.{statement}
 use Rattle.rimjhodek.proofs.registers.rimjhodek_mfc0.Tie as tie
@@ -26,17 +26,8 @@ returns c =
     let b = c .before .before .before .before in
     rw (c .sign-extend .ensures, c .before .low32 .ensures, c .before .before .special .ensures, read-special (cop0In (b .before .args .cop0 .now)) (b .before .args .n % 32) (omega arith) (sym (b .is-special .ensures) ∙ c .before .before .before .if1 .taken))
 
-cast-i : tie.Need-cast-i
-cast-i c = search needs
-
-mul-low32 : tie.Need-mul-low32
-mul-low32 c = search needs
-
-element-copy-out-low32 : tie.Need-element-copy-out-low32
-element-copy-out-low32 c = search needs
-
-arch-mask-requires : tie.Need-arch-mask-requires
-arch-mask-requires c κs = search needs
+read-requires : tie.Need-read-requires
+read-requires c κs = (omega arith, sym (c .before .is-special .ensures) ∙ c .if1 .left)
 
 low32-requires-2 : tie.Need-low32-requires-2
 low32-requires-2 c κs = search needs
@@ -45,10 +36,7 @@ sign-extend-requires-2 : tie.Need-sign-extend-requires-2
 sign-extend-requires-2 c κs = search needs
 
 returns-2 : tie.Need-returns-2
-returns-2 c =
-    let b = c .before .before .before .before .before in
-    rw (c .sign-extend2 .ensures, c .before .low322 .ensures, c .before .before .arch-mask .ensures)
-    (ap (λ (x : ℕ). signExtended (low32Of x)) (read-plain (b .before .args .cop0 .now) (b .before .args .n % 32) (omega arith) (sym (b .is-special .ensures) ∙ c .before .before .before .before .if1 .left)))
+returns-2 c = rw (c .sign-extend2 .ensures, c .before .low322 .ensures, c .before .before .read .ensures)
 
 pub rimjhodek-mfc0-spec : {M : Type 1} → statement M
 rimjhodek-mfc0-spec =
@@ -59,10 +47,7 @@ rimjhodek-mfc0-spec =
     low32-requires
     sign-extend-requires
     returns
-    cast-i
-    mul-low32
-    element-copy-out-low32
-    arch-mask-requires
+    read-requires
     low32-requires-2
     sign-extend-requires-2
     returns-2)
