@@ -1,6 +1,6 @@
--- A segment by what it was told as; and the segment of an address of KSEG0 or KSEG1, by the rows that these meet.
+-- A segment by what it was told as; of an address of the low 2 GB; and of one of KSEG0 or KSEG1, by the rows that these meet.
 use mathlib.Core.Path.{_≡_, refl, sym, ap, _∙_}
-use mathlib.Core.Bool.{Bool, true, false, cond, _&&_, _||_, and-false}
+use mathlib.Core.Bool.{Bool, true, false, cond, not, _&&_, _||_, and-false, false≢true}
 use mathlib.Core.List.{List, [], _∷_}
 use Prim.Native.Nat.{ℕ, _<_, _≤_}
 use native.Mathlib.Decide.{decLt}
@@ -14,14 +14,39 @@ use Rattle.addr.specs.declared.access.Mode.the-variants.{Kernel, Supervisor, Us
 use Rattle.addr.specs.declared.access.Access.{Access}
 use Rattle.addr.specs.declared.segments.Cached.the-variants.{Yes, No}
 use Rattle.addr.specs.declared.segments.Segment.{Segment}
-use Rattle.addr.specs.declared.segments.Segment.the-variants.{Direct, Invalid}
+use Rattle.addr.specs.declared.segments.Segment.the-variants.{Direct, Mapped, Invalid}
 use Rattle.addr.specs.Answers.{toldSegment}
-use Rattle.addr.specs.Segments.{SegmentRow, row, direct, inside, segmentIn, rowsOf, erlRow, tableOf, segmentOf}
+use Rattle.addr.specs.Segments.{direct, SegmentRow, row, inside, segmentIn, rowsOf, erlRow, tableOf, segmentOf}
 use Rattle.addr.proofs.Answers.{segment-one}
-use Rattle.rimjhodek.specs.Translation.{isKseg}
+use Rattle.rimjhodek.specs.Translation.{isUseg, isKseg}
 
 pub segment-told : (g : Segment) (a : Access) (v : ℕ) → toldSegment g ≡ toldSegment (segmentOf a v) → segmentOf a v ≡ g
 segment-told g a v e = sym (segment-one g (segmentOf a v) e)
+
+within : (f l v : ℕ) → inside f l v ≡ true → (f ≤ v) × (v ≤ l)
+unfolding inside
+within f l v e =
+    (leb-true f v (and-left (leb f v) (leb v l) e), leb-true v l (and-right (leb f v) (leb v l) e))
+
+wider : (v : ℕ) → inside 0 0x7FFF_FFFF v ≡ true → inside 0 0xFF_FFFF_FFFF v ≡ true
+unfolding inside
+wider v e =
+    rw (le-leb 0 v (omega arith), le-leb v 0xFF_FFFF_FFFF (omega (arith, within 0 0x7FFF_FFFF v e .1)))
+
+-- without ERL every table begins with a mapped row, which has the low 2 GB
+pub useg-segment : (a : Access) (v : ℕ) → isUseg (a .erl) v ≡ true → segmentOf a v ≡ Mapped
+unfolding segmentOf isUseg
+useg-segment a v e = go (a .erl) e (a .mode) (a .wide)
+  where
+    go : (erl : Bool) → (not erl && inside 0 0x7FFF_FFFF v) ≡ true → (m : Mode) (wide : Bool)
+        → segmentIn (cond erl (erlRow ∷ rowsOf m wide) (rowsOf m wide)) v ≡ Mapped
+    go true q m wide = absurd (false≢true q)
+    go false q Kernel true = rw (wider v q)
+    go false q Kernel false = rw q
+    go false q Supervisor true = rw (wider v q)
+    go false q Supervisor false = rw q
+    go false q User true = rw (wider v q)
+    go false q User false = rw q
 
 -- a row that ends before the addresses from f to l, or begins after them
 abbrev apart : ℕ → ℕ → SegmentRow → Bool
@@ -105,10 +130,9 @@ module _ (v : ℕ) (hf : first ≤ v) (hl : v ≤ last) where
   by-row User = refl
 
 pub kseg-segment : (a : Access) (v : ℕ) → isKseg v ≡ true → segmentOf a v ≡ ksegSegment (a .mode) v
-unfolding segmentOf isKseg inside
+unfolding segmentOf isKseg
 kseg-segment a v e =
-    let hf = leb-true first v (and-left (leb first v) (leb v last) e) in
-    let hl = leb-true v last (and-right (leb first v) (leb v last) e) in
-    by-met first last v hf hl (tableOf a)
+    let h = within first last v e in
+    by-met first last v (h .0) (h .1) (tableOf a)
     ∙ ap (λ (rs : List SegmentRow). segmentIn rs v) (table-met (a .mode) (a .wide) (a .erl))
-    ∙ by-row v hf hl (a .mode)
+    ∙ by-row v (h .0) (h .1) (a .mode)

@@ -1,5 +1,5 @@
 -- A translation as it crosses.
-use mathlib.Core.Bool.{Bool, cond, not}
+use mathlib.Core.Bool.{Bool, cond, not, _&&_}
 use Prim.Native.Nat.{ℕ, _+_}
 use lib.Dec.{eqb}
 use Rattle.bits.specs.Field.{fieldOf}
@@ -27,6 +27,10 @@ viaAnswer t v asid store a =
 
 unfoldable pub viaTable : Tlb → ℕ → ℕ → By → Tlb
 viaTable t v asid a = cond (isMode (a .mode)) (translateTable t v asid (accessIn a)) t
+
+-- the low 2 GB without ERL: mapped in every mode and width (5.2.2)
+unfoldable pub isUseg : Bool → ℕ → Bool
+isUseg erl v = not erl && inside 0 0x7FFF_FFFF v
 
 -- KSEG0 and KSEG1, one after the other (5.2.4)
 unfoldable pub isKseg : ℕ → Bool

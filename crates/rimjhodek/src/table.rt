@@ -44,7 +44,7 @@ pub extern "C" fn rimjhodek_lookup(
     ensures { λ r. ⌜ (r ≡ lookedOf (lookupAnswer (tableIn (now (tlb .entry))) vaddr asid store))
         × (now (tlb .exit) ≡ putMicro (now (tlb .entry)) (lookupTable (tableIn (now (tlb .entry))) vaddr asid)) ⌝ }
 {
-    look(tlb, vaddr, asid, store)
+    look(vaddr, asid, store, tlb)
 }
 
 // Would a lookup find an entry?
@@ -91,7 +91,9 @@ pub extern "C" fn rimjhodek_itlb_fill(tlb: &mut [u64; 132], vaddr: u64, asid: u8
     }
 }
 
-pub(crate) fn look(tlb: &mut [u64; 132], vaddr: u64, asid: u8, store: bool) -> Looked
+// A lookup, as both exports ask it. Its answer comes back through memory, whose address is passed before the arguments: with the
+// table last the others stay in the registers that the exports have them in.
+pub(crate) fn look(vaddr: u64, asid: u8, store: bool, tlb: &mut [u64; 132]) -> Looked
     ensures { λ r. ⌜ (r ≡ lookedOf (lookupAnswer (tableIn (now (tlb .entry))) vaddr asid store))
         × (now (tlb .exit) ≡ putMicro (now (tlb .entry)) (lookupTable (tableIn (now (tlb .entry))) vaddr asid)) ⌝ }
 {
@@ -121,7 +123,11 @@ fn scan(tlb: &[u64; 132], vaddr: u64, asid: u8) -> usize
         found = turn(tlb, i + 1, key, found);
         found = turn(tlb, i + 2, key, found);
         found = turn(tlb, i + 3, key, found);
-        i += 4;
+        found = turn(tlb, i + 4, key, found);
+        found = turn(tlb, i + 5, key, found);
+        found = turn(tlb, i + 6, key, found);
+        found = turn(tlb, i + 7, key, found);
+        i += 8;
     }
     found
 }

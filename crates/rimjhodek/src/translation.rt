@@ -3,7 +3,7 @@ ghost use mathlib.Core.Path.{_≡_};
 ghost use Rattle.addr.specs.Translate.{translateAnswer, translateTable};
 ghost use Rattle.rimjhodek.specs.Modes.{accessIn};
 ghost use Rattle.rimjhodek.specs.Table.{tableIn, putMicro};
-ghost use Rattle.rimjhodek.specs.Translation.{translatedOf, viaAnswer, viaTable, isKseg, unmapped, ksegAnswer};
+ghost use Rattle.rimjhodek.specs.Translation.{translatedOf, viaAnswer, viaTable, isUseg, isKseg, unmapped, ksegAnswer};
 use crate::modes::By;
 use crate::modes::access_in;
 use crate::modes::is_cached;
@@ -35,20 +35,33 @@ pub extern "C" fn rimjhodek_translate_via(
     failed(UNKNOWN)
 }
 
-// Directly where the segment says so, else by the TLB.
+// Directly where the segment says so, else by the TLB. The low 2 GB, where most of that is, are asked before the other segments.
 fn translate(tlb: &mut [u64; 132], vaddr: u64, asid: u8, store: bool, access: By) -> Looked
     ensures { λ r. ⌜ (r ≡ translatedOf (translateAnswer (tableIn (now (tlb .entry))) vaddr asid store (accessIn access)))
         × (now (tlb .exit) ≡ putMicro (now (tlb .entry)) (translateTable (tableIn (now (tlb .entry))) vaddr asid (accessIn access))) ⌝ }
 {
+    if is_useg(access.erl, vaddr) {
+        return look(vaddr, asid, store, tlb);
+    }
     match access_in(access).segment(vaddr) {
         Segment::Direct { addr, cached } => Looked {
             error: 0,
             uncached: !is_cached(cached),
             addr,
         },
-        Segment::Mapped => look(tlb, vaddr, asid, store),
+        Segment::Mapped => look(vaddr, asid, store, tlb),
         Segment::Invalid => failed(4),
     }
+}
+
+// Does an address lie in the low 2 GB, which every mode maps in either width, unless ERL makes them direct (5.2.2)?
+fn is_useg(erl: bool, vaddr: u64) -> bool
+    ensures { λ r. ⌜ r ≡ isUseg erl vaddr ⌝ }
+{
+    if erl {
+        return false;
+    }
+    vaddr <= 0x7FFF_FFFF
 }
 
 // Does an address lie in KSEG0 or KSEG1, which adjoin (5.2.4)?

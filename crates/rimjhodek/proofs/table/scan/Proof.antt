@@ -1,4 +1,4 @@
--- Four entries to a turn; what is held is what the entries before give.
+-- Eight entries to a turn; what is held is what the entries before give.
 use mathlib.Core.Path.{_≡_}
 use Prim.Native.Nat.{_≤_, _+_, _-_, _%_}
 use native.Mathlib.Omega.{arith}
@@ -8,7 +8,7 @@ use Rattle.rimjhodek.proofs.table.scan.Statement.{statement}
 use Rattle.rimjhodek.proofs.table.scan.Tie as tie
 
 abbrev Inv-loop : tie.InvT-loop
-Inv-loop tlb vaddr asid key found₀ i₀ found i = (i ≤ 32) × (i % 4 ≡ 0) × Held tlb vaddr asid i found
+Inv-loop tlb vaddr asid key found₀ i₀ found i = (i ≤ 32) × (i % 8 ≡ 0) × Held tlb vaddr asid i found
 
 abbrev μ-loop : tie.MeasureT-loop
 μ-loop tlb vaddr asid key found₀ i₀ found i = 32 - i
@@ -42,6 +42,30 @@ add-turn-3 c = search needs
 turn-requires-4 : tie.Need-turn-requires-4 Inv-loop μ-loop
 turn-requires-4 c κs = search needs
 
+add-turn-4 : tie.Need-add-turn-4 Inv-loop μ-loop
+add-turn-4 c = search needs
+
+turn-requires-5 : tie.Need-turn-requires-5 Inv-loop μ-loop
+turn-requires-5 c κs = search needs
+
+add-turn-5 : tie.Need-add-turn-5 Inv-loop μ-loop
+add-turn-5 c = search needs
+
+turn-requires-6 : tie.Need-turn-requires-6 Inv-loop μ-loop
+turn-requires-6 c κs = search needs
+
+add-turn-6 : tie.Need-add-turn-6 Inv-loop μ-loop
+add-turn-6 c = search needs
+
+turn-requires-7 : tie.Need-turn-requires-7 Inv-loop μ-loop
+turn-requires-7 c κs = search needs
+
+add-turn-7 : tie.Need-add-turn-7 Inv-loop μ-loop
+add-turn-7 c = search needs
+
+turn-requires-8 : tie.Need-turn-requires-8 Inv-loop μ-loop
+turn-requires-8 c κs = search needs
+
 add-i : tie.Need-add-i Inv-loop μ-loop
 add-i c = search needs
 
@@ -50,18 +74,23 @@ loop-less c = search needs
 
 loop-again : tie.Need-loop-again Inv-loop μ-loop
 loop-again c =
-    let t₁ = c .before .before .before in
+    let t₄ = c .before .before .before .before in
+    let t₁ = t₄ .before .before .before in
     let l = t₁ .before .before in
     let a = l .before .before .args in
     let k = l .before .key-of .ensures in
     let i = l .loop .i in
     let below = t₁ .before .loop-test .taken in
-    let z : i % 4 ≡ 0 = l .loop .inv .1 in
+    let z : i % 8 ≡ 0 = l .loop .inv .1 in
     let one = step (a .tlb .now) (a .vaddr) (a .asid) (search needs) _ k in
     let h₁ = one i (i + 1) _ _ below (omega arith) (t₁ .turn .ensures) (l .loop .inv .2) in
-    let h₂ = one (i + 1) (i + 2) _ _ (omega arith) (omega arith) (c .before .before .turn2 .ensures) h₁ in
-    let h₃ = one (i + 2) (i + 3) _ _ (omega arith) (omega arith) (c .before .turn3 .ensures) h₂ in
-    (omega arith, omega arith, one (i + 3) (i + 4) _ _ (omega arith) (omega arith) (c .turn4 .ensures) h₃)
+    let h₂ = one (i + 1) (i + 2) _ _ (omega arith) (omega arith) (t₄ .before .before .turn2 .ensures) h₁ in
+    let h₃ = one (i + 2) (i + 3) _ _ (omega arith) (omega arith) (t₄ .before .turn3 .ensures) h₂ in
+    let h₄ = one (i + 3) (i + 4) _ _ (omega arith) (omega arith) (t₄ .turn4 .ensures) h₃ in
+    let h₅ = one (i + 4) (i + 5) _ _ (omega arith) (omega arith) (c .before .before .before .turn5 .ensures) h₄ in
+    let h₆ = one (i + 5) (i + 6) _ _ (omega arith) (omega arith) (c .before .before .turn6 .ensures) h₅ in
+    let h₇ = one (i + 6) (i + 7) _ _ (omega arith) (omega arith) (c .before .turn7 .ensures) h₆ in
+    (omega arith, omega arith, one (i + 7) (i + 8) _ _ (omega arith) (omega arith) (c .turn8 .ensures) h₇)
 
 returns : tie.Need-returns Inv-loop μ-loop
 returns c =
@@ -84,6 +113,14 @@ scan-spec =
     turn-requires-3
     add-turn-3
     turn-requires-4
+    add-turn-4
+    turn-requires-5
+    add-turn-5
+    turn-requires-6
+    add-turn-6
+    turn-requires-7
+    add-turn-7
+    turn-requires-8
     add-i
     loop-less
     loop-again
