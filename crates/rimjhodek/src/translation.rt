@@ -1,5 +1,7 @@
 // Translation.
 ghost use mathlib.Core.Path.{_≡_};
+ghost use Rattle.addr.specs.Answers.{toldSegment};
+ghost use Rattle.addr.specs.Segments.{segmentOf};
 ghost use Rattle.addr.specs.Translate.{translateAnswer, translateTable};
 ghost use Rattle.rimjhodek.specs.Modes.{accessIn};
 ghost use Rattle.rimjhodek.specs.Table.{tableIn, putMicro};
@@ -35,15 +37,12 @@ pub extern "C" fn rimjhodek_translate_via(
     failed(UNKNOWN)
 }
 
-// Directly where the segment says so, else by the TLB. The low 2 GB, where most of that is, are asked before the other segments.
+// Directly where the segment says so, else by the TLB.
 fn translate(tlb: &mut [u64; 132], vaddr: u64, asid: u8, store: bool, access: By) -> Looked
     ensures { λ r. ⌜ (r ≡ translatedOf (translateAnswer (tableIn (now (tlb .entry))) vaddr asid store (accessIn access)))
         × (now (tlb .exit) ≡ putMicro (now (tlb .entry)) (translateTable (tableIn (now (tlb .entry))) vaddr asid (accessIn access))) ⌝ }
 {
-    if is_useg(access.erl, vaddr) {
-        return look(vaddr, asid, store, tlb);
-    }
-    match access_in(access).segment(vaddr) {
+    match segment_of(access, vaddr) {
         Segment::Direct { addr, cached } => Looked {
             error: 0,
             uncached: !is_cached(cached),
@@ -52,6 +51,16 @@ fn translate(tlb: &mut [u64; 132], vaddr: u64, asid: u8, store: bool, access: By
         Segment::Mapped => look(vaddr, asid, store, tlb),
         Segment::Invalid => failed(4),
     }
+}
+
+// The segment of an address. The low 2 GB, where most mapped addresses are, are asked before the others.
+fn segment_of(access: By, vaddr: u64) -> Segment
+    ensures { λ r. ⌜ toldSegment r ≡ toldSegment (segmentOf (accessIn access) vaddr) ⌝ }
+{
+    if is_useg(access.erl, vaddr) {
+        return Segment::Mapped;
+    }
+    access_in(access).segment(vaddr)
 }
 
 // Does an address lie in the low 2 GB, which every mode maps in either width, unless ERL makes them direct (5.2.2)?
