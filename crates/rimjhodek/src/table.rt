@@ -111,7 +111,8 @@ pub(crate) fn look(vaddr: u64, asid: u8, store: bool, tlb: &mut [u64; 132]) -> L
     failed(1)
 }
 
-// The number of the one entry that matches, 32 where there is none, and 64 where there are more.
+// The number of the one entry that matches, 32 where there is none, and 64 where there are more. Eight are asked a turn, since to
+// turn costs half as much as to ask one.
 fn scan(tlb: &[u64; 132], vaddr: u64, asid: u8) -> usize
     ensures { λ r. ⌜ r ≡ onlyOf (matching (entriesIn (now (tlb .entry))) vaddr asid 0) ⌝ }
 {
