@@ -4,7 +4,6 @@ use mathlib.Core.Bool.{Bool, true, false}
 use mathlib.Core.List.{List, [], _∷_}
 use Prim.Native.Nat.{ℕ, _+_, _-_, _%_, _^_, _<_, _≤_}
 use native.Mathlib.Omega.{arith}
-use lib.Dec.{eqb}
 use lib.ListN.{getD, set, drop}
 use borrow.Author.Tests.{eq-eqb, ne-eqb, lt-ltb, le-ltb}
 use Rattle.bits.specs.Field.{withFieldOf}
@@ -18,7 +17,7 @@ use Rattle.tlb.specs.Lookup.{lookupAnswer, lookupTable}
 use Rattle.tlb.specs.Micro.{lowest, slotHits, probedOf, filledOf}
 use Rattle.tlb.proofs.Looking.{below, is-shut, clash, found, nothing}
 use Rattle.tlb.proofs.Scanning.{held, turn-hit, turn-miss, ended-parts}
-use Rattle.rimjhodek.specs.Table.{entryIn, entriesIn, tableIn, putMicro, onlyOf, keyOf, wordHits, failed, lookedOf}
+use Rattle.rimjhodek.specs.Table.{entryIn, entriesIn, tableIn, putMicro, onlyOf, keyOf, wordHits, lookedOf}
 use Rattle.rimjhodek.proofs.Comparing.{matches-is}
 use Rattle.rimjhodek.proofs.Scanning.{entries-long, entry-at}
 use Rattle.rimjhodek.proofs.Slots.{at-home, to-shut, to-next, to-slot}

@@ -1,5 +1,5 @@
 -- A translation, by the segment of the address; and one in KSEG0 or KSEG1, by the mode.
-use mathlib.Core.Path.{_≡_, refl, sym, ap, _∙_}
+use mathlib.Core.Path.{_≡_, refl, sym, _∙_}
 use mathlib.Core.Bool.{Bool, true, false, not, cond}
 use mathlib.Core.List.{List}
 use Prim.Native.Nat.{ℕ, zero, suc}
@@ -13,7 +13,6 @@ use Rattle.tlb.specs.Lookup.{lookupAnswer, lookupTable}
 use Rattle.addr.specs.declared.access.Access.{Access}
 use Rattle.addr.specs.declared.segments.Cached.{Cached}
 use Rattle.addr.specs.declared.segments.Cached.the-variants.{Yes, No}
-use Rattle.addr.specs.declared.segments.Segment.{Segment}
 use Rattle.addr.specs.declared.segments.Segment.the-variants.{Direct, Mapped, Invalid}
 use Rattle.addr.specs.Segments.{segmentOf}
 use Rattle.addr.specs.Translate.{mappedAnswer, translateAnswer, translateTable}

@@ -1,7 +1,7 @@
 -- Which entries match an address: `matching` has exactly the numbers below 32 whose entries match, rising. Where it has one, no other
 -- entry matches; where it has two or more, two different entries do.
 use mathlib.Core.Path.{_≡_, refl, ap, sym, _∙_}
-use mathlib.Core.Bool.{Bool, true, false, cond, _&&_, _||_}
+use mathlib.Core.Bool.{Bool, true, false, _&&_, _||_}
 use mathlib.Core.List.{List, [], _∷_}
 use Prim.Native.Nat.{ℕ, suc, _+_, _-_, _<_, _≤_}
 use native.Mathlib.Nat.{sub-zero}

@@ -1,19 +1,16 @@
 -- An entry is sound exactly where reading it into the registers and writing it back leaves it as it is.
-use mathlib.Core.Path.{_≡_, refl, ap, sym, subst, _∙_}
+use mathlib.Core.Path.{_≡_, refl, ap, subst, _∙_}
 use mathlib.Core.Bool.{Bool, true, false, _&&_}
-use Prim.Native.Nat.{ℕ, _*_, _%_, _^_, _<_}
+use Prim.Native.Nat.{ℕ, _%_}
 use native.Mathlib.Omega.{arith}
-use lib.Bits.{bitOr}
 use lib.ListN.{length}
-use Rattle.bits.specs.Field.{fieldOf}
-use Rattle.bits.specs.Mask.{under, cleared}
+use Rattle.bits.specs.Mask.{under}
 use Rattle.cop0.specs.declared.registers.Cop0.{Cop0}
 use Rattle.cop0.specs.Registers.{EntryLo0, EntryLo1, PageMask, EntryHi, among, unused, archMask}
 use Rattle.cop0.specs.File.{readAt, readOf, setHardwareOf}
 use Rattle.cop0.proofs.Hardware.{set-file, read-past, read-back}
 use Rattle.tlb.specs.declared.entries.Entry.{Entry}
 use Rattle.tlb.specs.declared.table.Tlb.{Tlb}
-use Rattle.tlb.specs.Entries.{vpn2Of}
 use Rattle.tlb.specs.Table.{entryAt}
 use Rattle.tlb.specs.Moves.{globalOf, entryOf, loOf, hiOf, readEntryOf}
 use Rattle.tlb.specs.Sound.{Sound, SoundTable}

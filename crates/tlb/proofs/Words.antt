@@ -1,6 +1,6 @@
 -- The four words of a sound entry: what a read puts into the registers, and read back the entry itself.
 use mathlib.Core.Path.{_≡_, ap, _∙_, sym}
-use Prim.Native.Nat.{ℕ, _+_, _*_, _%_, _^_, _<_}
+use Prim.Native.Nat.{ℕ, _*_, _%_, _^_, _<_}
 use native.Mathlib.Omega.{arith}
 use lib.Bits.{bitOr}
 use Rattle.bits.specs.Field.{fieldOf}

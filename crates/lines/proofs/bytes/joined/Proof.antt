@@ -1,6 +1,5 @@
 -- By the number of bytes.
-use mathlib.Core.Path.{_≡_, ap, sym, _∙_}
-use mathlib.Core.List.{List}
+use mathlib.Core.Path.{ap, _∙_}
 use Rattle.lines.specs.Bytes.{bigEndian}
 use Rattle.lines.proofs.ByteLaws.{of-eight, each, each-is}
 use borrow.Author.Needs.{needs}

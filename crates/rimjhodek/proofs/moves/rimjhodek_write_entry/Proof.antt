@@ -1,12 +1,7 @@
 -- The entry that the write makes goes into its words, and the slots are emptied.
-use mathlib.Core.Path.{_≡_, refl, sym, ap, _∙_}
-use Prim.Native.Nat.{_%_}
-use native.Mathlib.Omega.{arith}
-use lib.Dec.{eqb}
-use Rattle.tlb.specs.declared.entries.Entry.{Entry}
+use mathlib.Core.Path.{_≡_}
 use Rattle.tlb.specs.Moves.{entryOf, writtenOf}
 use Rattle.rimjhodek.specs.Registers.{cop0In}
-use Rattle.rimjhodek.specs.Table.{putEntry, emptied}
 use Rattle.rimjhodek.proofs.Entering.{put-written}
 use borrow.Author.Needs.{needs}
 use Rattle.rimjhodek.proofs.moves.rimjhodek_write_entry.Statement.{statement}

@@ -1,8 +1,7 @@
 -- By whether the register is special.
-use mathlib.Core.Path.{ap, sym, _∙_}
-use Prim.Native.Nat.{ℕ, _%_}
+use mathlib.Core.Path.{sym, _∙_}
+use Prim.Native.Nat.{_%_}
 use native.Mathlib.Omega.{arith}
-use Rattle.bits.specs.Extension.{low32Of, signExtended}
 use Rattle.rimjhodek.specs.Registers.{cop0In}
 use Rattle.rimjhodek.proofs.Reading.{read-special}
 use borrow.Author.Needs.{needs}

@@ -1,6 +1,5 @@
 -- Slot 0, then slot 1.
-use mathlib.Core.Path.{refl, sym, _∙_}
-use native.Mathlib.Omega.{arith}
+use mathlib.Core.Path.{sym, _∙_}
 use Rattle.rimjhodek.proofs.Looking.{first-hits, second-hits, neither-hits}
 use borrow.Author.Needs.{needs}
 use Rattle.rimjhodek.proofs.table.rimjhodek_itlb_probe.Statement.{statement}
