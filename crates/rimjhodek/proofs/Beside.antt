@@ -35,7 +35,7 @@ write-leaves κs a r s l p = leaves (a .0 .now) l _ (write-fits (in-fits (a .0 .
 pub set-hardware-leaves : (κs : Lifetimes.Lfts 1) (a : World.ArgsD set-hardware.signature κs) (r s : _) → length (a .0 .now) ≡ 38
     → set-hardware-reads.Post κs a r s → Leaves (a .0 .now) (setHardwareOf (cop0In (a .0 .now)) (a .1 .0) (a .1 .1 .0)) (s .0 .now)
 set-hardware-leaves κs a r s l p =
-    leaves (a .0 .now) l _ (set-hardware-fits (in-fits (a .0 .now) l) (a .1 .0) (a .1 .1 .0)) (s .0 .now) p
+    leaves (a .0 .now) l _ (set-hardware-fits _ (in-fits (a .0 .now) l) (a .1 .0) (a .1 .1 .0)) (s .0 .now) p
 
 pub timer-edge-leaves : (κs : Lifetimes.Lfts 1) (a : World.ArgsD timer-edge.signature κs) (r : Bool) (s : _) → length (a .0 .now) ≡ 38
     → timer-edge-reads.Post κs a r s → Leaves (a .0 .now) (asked (cop0In (a .0 .now))) (s .0 .now)

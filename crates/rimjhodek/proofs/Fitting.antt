@@ -76,9 +76,9 @@ pub dmtc0-fits : {c : Cop0} → Fits c → (n v : ℕ) → Fits (dmtc0Of c n v)
 unfolding dmtc0Of
 dmtc0-fits f n v = write-fits (latch-fits f v) n v
 
-pub set-hardware-fits : {c : Cop0} → Fits c → (n v : ℕ) → Fits (setHardwareOf c n v)
+pub set-hardware-fits : (c : Cop0) → Fits c → (n v : ℕ) → Fits (setHardwareOf c n v)
 unfolding setHardwareOf
-set-hardware-fits f n v = reg-fits f _ _
+set-hardware-fits c f n v = reg-fits f _ _
 
 pub tick-fits : {c : Cop0} → Fits c → Fits (tickRandomOf c)
 unfolding tickRandomOf

@@ -4,7 +4,7 @@
 -- 1. `calls-are-the-run`: what is answered, and what the words mean at the end, is the run of the operations.
 -- 2. `calls-exact`: from words in which no bit is set that means nothing, no call sets one.
 -- 3. `same-words`: one member advances at once, another in pieces with the same totals; whatever they called before and call after,
---    their WORDS are equal, and `answers-are` and `session`'s `Rooms` say the same of the answers and the edges.
+--    their WORDS are equal, they are told as many timer edges (`same-edges`), and `answers-are` and `session`'s `Rooms` say the rest.
 -- 4. The first use is members who start by `rimjhodek_session_new`: `new-starts`, `members-alike`.
 use mathlib.Core.Path.{_≡_, refl, sym, ap, ap₂, subst, _∙_}
 use mathlib.Core.List.{List, [], _∷_, _++_}
@@ -24,7 +24,7 @@ use Rattle.session.specs.declared.op.Op.{Op}
 use Rattle.session.specs.declared.op.Op.the-variants as op
 use Rattle.session.specs.Record.{fresh}
 use Rattle.session.specs.Step.{Outcome}
-use Rattle.session.specs.Run.{Ran, preceded, runBy, run, advances}
+use Rattle.session.specs.Run.{Ran, preceded, runBy, run, advances, edgesIn}
 use Rattle.session.proofs.Rooms as rooms
 use Rattle.rimjhodek.specs.Registers.{blank, cop0Words}
 use Rattle.rimjhodek.specs.Table.{tableWords}
@@ -111,6 +111,13 @@ module _ (w : Words) (h : Whole w) (k : Steady (sessionIn w .cop0)) (before afte
   pub answers-are : (answers rs ≡ rooms.inOne (rooms.one (sessionIn w) k before after ps small) .answers)
       × (answers rs′ ≡ rooms.inOne (rooms.cut (sessionIn w) k before after ps small) .answers)
   answers-are = (ap (λ (r : Ran). r .answers) ran-one, ap (λ (r : Ran). r .answers) ran-cut)
+
+  -- and both members are told as many timer edges
+  pub same-edges : edgesIn (answers rs) ≡ edgesIn (answers rs′)
+  same-edges =
+      ap edgesIn (answers-are .0)
+      ∙ rooms.all-edges (sessionIn w) k before after ps small
+      ∙ sym (ap edgesIn (answers-are .1))
 
 -- THE FRESH SESSION: a member who starts by the export has its words
 pub record Starts (w : Words) : Type 0 where

@@ -24,7 +24,7 @@ use Rattle.rimjhodek.specs.declared.exceptions.Exc.{Exc}
 use Rattle.rimjhodek.specs.Registers.{cop0In, putIn}
 use Rattle.rimjhodek.specs.Exceptions.{exceptionOf, dispatchValues, takenOf}
 use Rattle.rimjhodek.proofs.Meaning.{rest-none, Fits, in-fits, Holds, onto, held}
-use Rattle.rimjhodek.proofs.Fitting.{reg-fits}
+use Rattle.rimjhodek.proofs.Fitting.{set-hardware-fits}
 
 -- words ws′ that hold a record which fits
 pub record Made (ws ws′ : List ℕ) (c : Cop0) : Type 0 where
@@ -39,10 +39,6 @@ made-by : {ws ws′ : List ℕ} {c : Cop0} → Made ws ws′ c → (op : Cop0 �
     → ws″ ≡ putIn ws′ (op (cop0In ws′)) → Made ws ws″ (op c)
 made-by m op f ws″ e = record { holds = held (m .holds) op ws″ e f; fits = f }
 
-hardware-fits : (c : Cop0) → Fits c → (n v : ℕ) → Fits (setHardwareOf c n v)
-unfolding setHardwareOf
-hardware-fits c f n v = reg-fits f _ _
-
 -- a register set by the hardware, and the last one
 module _ {ws ws′ : List ℕ} {c : Cop0} (m : Made ws ws′ c) (n v : ℕ)
     (ws″ : List ℕ) (e : ws″ ≡ putIn ws′ (setHardwareOf (cop0In ws′) n v)) where
@@ -50,7 +46,7 @@ module _ {ws ws′ : List ℕ} {c : Cop0} (m : Made ws ws′ c) (n v : ℕ)
   op d = setHardwareOf d n v
 
   pub made-set : Made ws ws″ (setHardwareOf c n v)
-  made-set = made-by m op (hardware-fits c (m .fits) n v) ws″ e
+  made-set = made-by m op (set-hardware-fits c (m .fits) n v) ws″ e
 
   pub set-last : ws″ ≡ putIn ws (setHardwareOf c n v)
   set-last = onto (m .holds) op ws″ e
@@ -70,13 +66,13 @@ module _ (ws : List ℕ) (exc : Exception) (pc : ℕ) (slot : Bool) (bad : ℕ) 
     caused : Made ws ws₁ (recorded c exc pc slot)
     caused =
         made-by (made-none ws long) (λ (d : Cop0). recorded d exc pc slot)
-        (recorded-by Fits hardware-fits c (in-fits ws long) exc pc slot) ws₁ e₁
+        (recorded-by Fits set-hardware-fits c (in-fits ws long) exc pc slot) ws₁ e₁
 
     pub faulted : writesBadVaddrOf exc ≡ true → (ws₂ ws₃ : List ℕ) → ws₂ ≡ putIn ws₁ (addressed (cop0In ws₁) bad)
         → ws₃ ≡ putIn ws₂ (handling (cop0In ws₂)) → ws₃ ≡ putIn ws (dispatchOf c exc pc slot bad .cop0)
     unfolding dispatchOf taking.takenOf
     faulted has ws₂ ws₃ e₂ e₃ =
-        let f = addressed-by Fits hardware-fits _ (caused .fits) bad in
+        let f = addressed-by Fits set-hardware-fits _ (caused .fits) bad in
         let m = made-by caused (λ (d : Cop0). addressed d bad) f ws₂ e₂ in
         rw (proper, has) (onto (m .holds) handling ws₃ e₃)
 

@@ -16,7 +16,7 @@ use mathlib.Core.Path.{_≡_, refl, ap, ap₂, sym, subst, _∙_}
 use mathlib.Core.Bool.{Bool, true, false, cond}
 use mathlib.Core.List.{List, [], _∷_, _++_}
 use Prim.Native.Nat.{ℕ, _+_, _^_, _<_, _≤_}
-use native.Mathlib.Nat.{add-zero}
+use native.Mathlib.Nat.{zero-add, add-zero, add-assoc}
 use native.Mathlib.Omega.{arith}
 use lib.Dec.{T, ltb, ltb→lt}
 use Rattle.bits.specs.Field.{bit}
@@ -138,6 +138,15 @@ parts-are os ps qs s =
     ∙ ap (λ (r : Ran). record { session = r .session; answers = run os s .answers ++ r .answers })
     (run-joined ps qs (run os s .session))
 
+-- the edges of joined answers
+edges-joined : (ts us : List Told) → edgesIn (ts ++ us) ≡ edgesIn ts + edgesIn us
+unfolding edgesIn
+edges-joined [] us = sym (zero-add (edgesIn us))
+edges-joined (t ∷ ts) us = ap (λ (n : ℕ). edgesTold t + n) (edges-joined ts us) ∙ sym (add-assoc (edgesTold t) (edgesIn ts) (edgesIn us))
+
+edges-of : (p : Parts) → edgesIn (inOne p .answers) ≡ edgesIn (p .before) + (edgesIn (p .between) + edgesIn (p .after))
+edges-of p = edges-joined (p .before) (p .between ++ p .after) ∙ ap (λ (n : ℕ). edgesIn (p .before) + n) (edges-joined (p .between) (p .after))
+
 -- THE CUT: from a steady start, for all that came before and all that comes after, one advance and its pieces
 module _ (start : Session) (k : Steady (start .cop0)) (before after : List Op) (ps : List Piece) (small : allCounts ps < 2 ^ 32) where
   abbrev pub n : ℕ
@@ -188,6 +197,13 @@ module _ (start : Session) (k : Steady (start .cop0)) (before after : List Op) (
 
   pub same-edges : edgesIn (one .between) ≡ edgesIn (cut .between)
   same-edges = one-edges ∙ sym (edges-advances ps at ∙ total-edges ps at steady small)
+
+  -- and so are all that the two runs report
+  pub all-edges : edgesIn (inOne one .answers) ≡ edgesIn (inOne cut .answers)
+  all-edges =
+      edges-of one
+      ∙ ap₂ (λ (a b : ℕ). edgesIn (one .before) + (a + b)) same-edges (ap edgesIn same-after)
+      ∙ sym (edges-of cut)
 
   pub plain-edges : edgesIn (one .between) ≡ edges n (at .cop0)
   plain-edges = one-edges ∙ ap reported (answer-is (at .cop0) (steady .kept) n m small) ∙ add-zero (edges n (at .cop0))
