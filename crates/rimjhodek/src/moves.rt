@@ -2,7 +2,7 @@
 ghost use mathlib.Core.Path.{_≡_};
 ghost use Prim.Native.Nat.{_<_, _%_};
 ghost use Rattle.tlb.specs.Table.{freshEntry, freshTable};
-ghost use Rattle.tlb.specs.Moves.{entryOf, writtenOf, readEntryOf, probeOf, pageOf};
+ghost use Rattle.tlb.specs.Moves.{entryOf, writtenOf, readEntryOf, probeOf};
 ghost use Rattle.tlb.specs.Words.{hiWord, loWord};
 ghost use Rattle.rimjhodek.specs.Registers.{cop0In, putIn};
 ghost use Rattle.rimjhodek.specs.Table.{entryIn, tableIn, putMicro, putEntry, tableWords, emptied, filledWith, indexFor};
@@ -13,6 +13,8 @@ use cop0::Cop0;
 use tlb::Entry;
 use tlb::PageEntry;
 use tlb::Tlb;
+use tlb::entry_from;
+use tlb::page_from;
 
 // A fresh table, in place: one that is built first takes as much stack. Whatever was lent is overwritten whole.
 #[no_mangle]
@@ -45,10 +47,7 @@ pub extern "C" fn rimjhodek_write_entry(tlb: &mut [u64; 132], index: usize, cop0
     ensures { λ _. ⌜ now (tlb .exit) ≡ putMicro (putEntry (now (tlb .entry)) (index % 32) (entryOf (cop0In (now (cop0 .entry)))))
         (writtenOf (tableIn (now (tlb .entry))) index (cop0In (now (cop0 .entry)))) ⌝ }
 {
-    // By a table of one entry, since the write to it is what makes an entry of the registers.
-    let old = entry_in(tlb, index % 32);
-    let written = filled_with(old).write_entry(0, cop0_in(*cop0));
-    put_entry(tlb, index % 32, written.entry(0));
+    put_entry(tlb, index % 32, entry_from(cop0_in(*cop0)));
     empty(tlb);
 }
 
@@ -100,8 +99,8 @@ fn entry_in(tlb: &[u64; 132], i: usize) -> Entry
     let mask = bits::low32(tlb[at]);
     let hi = tlb[at + 1];
     let lo0 = tlb[at + 2];
-    let even = page_in(lo0);
-    let odd = page_in(tlb[at + 3]);
+    let even = page_from(lo0);
+    let odd = page_from(tlb[at + 3]);
     Entry {
         page_mask: mask,
         vpn2: bits::merge(mask as u64, 0, bits::field(hi, 39, 13) * 8192),
@@ -110,17 +109,6 @@ fn entry_in(tlb: &[u64; 132], i: usize) -> Entry
         region: bits::field(hi, 63, 62) as u8,
         lo0: even,
         lo1: odd,
-    }
-}
-
-fn page_in(lo: u64) -> PageEntry
-    ensures { λ r. ⌜ r ≡ pageOf lo ⌝ }
-{
-    PageEntry {
-        pfn: bits::field(lo, 25, 6) as u32,
-        c: bits::field(lo, 5, 3) as u8,
-        dirty: bits::field(lo, 2, 2) == 1,
-        valid: bits::field(lo, 1, 1) == 1,
     }
 }
 

@@ -25,6 +25,8 @@ use Rattle.tlb.proofs.table.Tlb.jtlb_has_match.Reads as jtlb-has-match
 use Rattle.tlb.proofs.table.Tlb.itlb_probe.Reads as itlb-probe
 use Rattle.tlb.proofs.table.Tlb.itlb_fill.Reads as itlb-fill
 use Rattle.tlb.proofs.entries.Entry.answer.Reads as entry-answer
+use Rattle.tlb.proofs.moves.page_from.Reads as page-from
+use Rattle.tlb.proofs.moves.entry_from.Reads as entry-from
 
 pub uncached-unique : (a : PageEntry × Unit {0}) (r r′ : Bool) → uncached.Post tt a r a → uncached.Post tt a r′ a → r ≡ r′
 uncached-unique a r r′ = same
@@ -54,6 +56,12 @@ looked a t = record { answer = a; tlb = t }
 pub lookup-unique : (a : Tlb × (ℕ × (ℕ × (Bool × Unit {0})))) (r r′ : Looked) → lookup.Post tt a r a
     → lookup.Post tt a r′ a → r ≡ r′
 lookup-unique a r r′ p q = ap₂ looked (lookup-one (r .answer) (r′ .answer) (same (p .0) (q .0))) (same (p .1) (q .1))
+
+pub page-from-unique : (a : ℕ × Unit {0}) (r r′ : PageEntry) → page-from.Post tt a r a → page-from.Post tt a r′ a → r ≡ r′
+page-from-unique a r r′ = same
+
+pub entry-from-unique : (a : Cop0 × Unit {0}) (r r′ : Entry) → entry-from.Post tt a r a → entry-from.Post tt a r′ a → r ≡ r′
+entry-from-unique a r r′ = same
 
 pub write-entry-unique : (a : Tlb × (ℕ × (Cop0 × Unit {0}))) (r r′ : Tlb) → write-entry.Post tt a r a
     → write-entry.Post tt a r′ a → r ≡ r′

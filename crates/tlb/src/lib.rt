@@ -10,5 +10,7 @@ pub use entries::PageEntry;
 pub use entries::TlbFault;
 pub use entries::Translated;
 pub use micro::ItlbProbed;
+pub use moves::entry_from;
+pub use moves::page_from;
 pub use table::Looked;
 pub use table::Tlb;

@@ -60,7 +60,8 @@ fn canonical_page_mask(mask: u64) -> u32
     out * 8192
 }
 
-fn page_from(lo: u64) -> PageEntry
+// A half of an entry, as EntryLo0 or EntryLo1 has it (figure 5-10).
+pub fn page_from(lo: u64) -> PageEntry
     ensures { λ r. ⌜ r ≡ pageOf lo ⌝ }
 {
     PageEntry {
@@ -71,7 +72,8 @@ fn page_from(lo: u64) -> PageEntry
     }
 }
 
-fn entry_from(cop0: Cop0) -> Entry
+// The entry that the registers have: what a write puts into its place.
+pub fn entry_from(cop0: Cop0) -> Entry
     ensures { λ r. ⌜ r ≡ entryOf cop0 ⌝ }
 {
     let hi = cop0.read(Cop0::ENTRY_HI);

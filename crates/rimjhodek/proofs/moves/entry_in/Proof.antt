@@ -34,20 +34,20 @@ mul-lo0 c = search needs
 element-copy-out-lo0 : tie.Need-element-copy-out-lo0
 element-copy-out-lo0 c = search needs
 
-page-in-requires : tie.Need-page-in-requires
-page-in-requires c κs = search needs
+page-from-requires : tie.Need-page-from-requires
+page-from-requires c κs = search needs
 
-add-page-in : tie.Need-add-page-in
-add-page-in c = search needs
+add-page-from : tie.Need-add-page-from
+add-page-from c = search needs
 
-mul-page-in : tie.Need-mul-page-in
-mul-page-in c = search needs
+mul-page-from : tie.Need-mul-page-from
+mul-page-from c = search needs
 
-element-copy-out-page-in : tie.Need-element-copy-out-page-in
-element-copy-out-page-in c = search needs
+element-copy-out-page-from : tie.Need-element-copy-out-page-from
+element-copy-out-page-from c = search needs
 
-page-in-requires-2 : tie.Need-page-in-requires-2
-page-in-requires-2 c κs = search needs
+page-from-requires-2 : tie.Need-page-from-requires-2
+page-from-requires-2 c κs = search needs
 
 cast-merge : tie.Need-cast-merge
 cast-merge c = search needs
@@ -82,8 +82,8 @@ returns c =
     let f = c .before .before .before .before in
     let p = f .before in
     rw (
-      p .before .before .page-in .ensures,
-      p .page-in2 .ensures,
+      p .before .before .page-from .ensures,
+      p .page-from2 .ensures,
       c .before .before .before .merge .ensures,
       f .field .ensures,
       c .before .before .field2 .ensures,
@@ -106,11 +106,11 @@ entry-in-spec =
     add-lo0
     mul-lo0
     element-copy-out-lo0
-    page-in-requires
-    add-page-in
-    mul-page-in
-    element-copy-out-page-in
-    page-in-requires-2
+    page-from-requires
+    add-page-from
+    mul-page-from
+    element-copy-out-page-from
+    page-from-requires-2
     cast-merge
     field-requires
     mul-merge
