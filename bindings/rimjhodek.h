@@ -149,9 +149,14 @@ enum {
     RIMJHODEK_FAULT_ADDRESS = 4 /* of rimjhodek_translate_via alone */
 };
 
+/* No entry has this number. */
+#define RIMJHODEK_NO_ENTRY 32
+
 typedef struct RimjhodekLooked {
     uint8_t error; /* 0, or why */
     bool uncached;
+    uint8_t entry; /* the number of the entry that gave the address: the only one that matches; RIMJHODEK_NO_ENTRY in a
+                      direct segment, and where there is an error */
     uint32_t addr;
 } RimjhodekLooked;
 

@@ -58,7 +58,7 @@ static uint64_t touch(Member *m, uint64_t vaddr, bool store) {
     if (rimjhodek_interrupt_pending(m->cop0)) {
         return rimjhodek_dispatch(m->cop0, interrupt, vaddr, true, 0).vector;
     }
-    return found.addr;
+    return (uint64_t)found.entry << 32 | found.addr;
 }
 
 /* One input, with its answer. */

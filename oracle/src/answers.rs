@@ -72,16 +72,21 @@ pub fn entry(number: u64, entry: Entry) -> String {
     tag.half(entry.lo0).half(entry.lo1).0
 }
 
-pub fn lookup(answer: Result<Translated, TlbFault>) -> String {
+/// With the number of the entry that answered, where one did.
+pub fn lookup(answer: Result<Translated, TlbFault>, entry: impl FnOnce() -> u64) -> String {
     match answer {
-        Ok(found) => at(found.addr, found.uncached),
+        Ok(found) => at(found.addr, found.uncached, entry()),
         Err(fault) => tlb_fault(fault),
     }
 }
 
-pub fn translation(answer: Result<Physical, TranslateError>) -> String {
+/// The same of a translation.
+pub fn translation(
+    answer: Result<Physical, TranslateError>,
+    entry: impl FnOnce() -> u64,
+) -> String {
     match answer {
-        Ok(found) => at(found.addr, is_cached(found.cached)),
+        Ok(found) => at(found.addr, is_cached(found.cached), entry()),
         Err(TranslateError::Address) => "address".into(),
         Err(TranslateError::Tlb(fault)) => tlb_fault(fault),
     }
@@ -132,8 +137,8 @@ fn evict<const N: usize>(out: Writeback<N>) -> String {
 }
 
 /// The flag is UNCACHED for a lookup and CACHED for a translation.
-fn at(address: u32, flag: bool) -> String {
-    Line::new("at").number(address).flag(flag).0
+fn at(address: u32, flag: bool, entry: u64) -> String {
+    Line::new("at").number(address).flag(flag).number(entry).0
 }
 
 fn tlb_fault(fault: TlbFault) -> String {

@@ -7,6 +7,7 @@ use original::tlb::Tlb;
 
 use crate::answers;
 use crate::caches;
+use crate::entries;
 use crate::exceptions::{self, VECTOR_KINDS};
 use crate::machine::{Machine, Refusal};
 use crate::parse::Operand::{self, Byte, Exception, Flag, Long, Mode, Vector, Word, A, B};
@@ -145,7 +146,8 @@ fn access_form(rs: u8) -> Result<u64, Refusal> {
 
 fn lookup(machine: &mut Machine, operands: &[u64]) -> String {
     let (vaddr, asid, store) = (operands[0], byte(operands[1]), operands[2] == 1);
-    answers::lookup(machine.tlb.lookup(vaddr, asid, store))
+    let found = machine.tlb.lookup(vaddr, asid, store);
+    answers::lookup(found, || entries::answering(&machine.tlb, vaddr, asid))
 }
 
 fn segment(operands: &[u64]) -> String {
@@ -155,7 +157,8 @@ fn segment(operands: &[u64]) -> String {
 fn translate(machine: &mut Machine, operands: &[u64]) -> String {
     let (vaddr, asid, store) = (operands[0], byte(operands[1]), operands[2] == 1);
     let access = access(&operands[3..]);
-    answers::translation(addr::translate_via(&mut machine.tlb, vaddr, asid, store, access))
+    let found = addr::translate_via(&mut machine.tlb, vaddr, asid, store, access);
+    answers::translation(found, || entries::answering_via(&machine.tlb, vaddr, asid, access))
 }
 
 /// The access that the last operands of a row name: MODE, WIDE and ERL.

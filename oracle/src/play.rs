@@ -101,9 +101,22 @@ mod tests {
                       translate_via 5 0 0 2 0 0\nlookup 5 0 1\nlookup 1005 0 0\n\
                       translate_via 2000 0 0 2 0 0\ntranslate_via 80000000 0 0 2 0 0";
         let answers = "access 0000000000000000 0 1\ndirect 0000000000000004 1\nmapped\n\
-                       address\nok\nok\nat 0000000000001005 1\n\
-                       at 0000000000001005 0\nmodified\ninvalid\n\
+                       address\nok\nok\nat 0000000000001005 1 0000000000000000\n\
+                       at 0000000000001005 0 0000000000000000\nmodified\ninvalid\n\
                        refill\naddress";
+        assert_eq!(text(trace), answers);
+    }
+
+    /// By the last entry; a direct segment by none; and two that match, by none either.
+    #[test]
+    fn entries_that_answered() {
+        let trace = b"mtc0 2 56\nmtc0 a 4000\nwrite_entry 1f\nlookup 4000 0 1\n\
+                      translate_via 4000 0 1 2 0 0\ntranslate_via ffffffff80004000 0 1 0 0 0\n\
+                      translate_via 4000 0 1 0 0 1\nwrite_entry 3\nlookup 4000 0 1";
+        let answers = "ok\nok\nok\nat 0000000000001000 1 000000000000001f\n\
+                       at 0000000000001000 0 000000000000001f\n\
+                       at 0000000000004000 1 0000000000000020\n\
+                       at 0000000000004000 0 0000000000000020\nok\nrefill";
         assert_eq!(text(trace), answers);
     }
 

@@ -3,7 +3,8 @@
 
 use original::cache::{DCACHE_LINE, ICACHE_LINE};
 use original::cop0::reg;
-use rimjhodek::addr::Access;
+use rimjhodek::addr::{translate_via, Access};
+use rimjhodek::ffi::NO_ENTRY;
 
 use crate::difference::Unequal;
 use crate::words;
@@ -74,6 +75,7 @@ impl Sides {
         match name {
             "advance" => self.advance_in_one(before, operands, &answer)?,
             "access" => self.access_in_one(&answer)?,
+            "lookup" | "translate_via" => self.entry_by_itself(name, operands, &answer)?,
             "dispatch" => kinds_of_exception(operands)?,
             _ => (),
         }
@@ -107,6 +109,29 @@ impl Sides {
             Err(refusal) => format!("refused {}", refusal.number()),
         };
         Unequal::unless_same("Access::from_status", answer.into(), granted)
+    }
+
+    /// The driver walks the table for the entry that answered; the binding's answer has its number. A
+    /// lookup that succeeds changes nothing, so that it can be made once more.
+    fn entry_by_itself(
+        &mut self,
+        name: &str,
+        operands: &[u64],
+        answer: &str,
+    ) -> Result<(), Unequal> {
+        let (vaddr, asid, store) = (operands[0], operands[1] as u8, operands[2] == 1);
+        let tlb = &mut self.binding.tlb;
+        let entry = if name == "lookup" {
+            tlb.lookup(vaddr, asid, store).ok().map(|found| found.entry)
+        } else {
+            let access = bound::operations::access(&operands[3..]);
+            let found = translate_via(tlb, vaddr, asid, store, access).ok();
+            found.map(|found| found.entry.unwrap_or(NO_ENTRY))
+        };
+        let walked = answer.strip_prefix("at ").and_then(|at| at.split(' ').nth(2));
+        let told = entry.map(|entry| format!("{entry:016x}"));
+        let text = |entry: Option<&str>| entry.unwrap_or("none").to_string();
+        Unequal::unless_same("the entry's number", text(walked), text(told.as_deref()))
     }
 
     /// What an operation can have changed: a cache's changes no register.

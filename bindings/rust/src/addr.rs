@@ -30,6 +30,9 @@ impl Cached {
 pub struct Physical {
     /// Whether the access is cached.
     pub cached: Cached,
+    /// The number of the TLB's entry that gave the address, 0 to 31, or none in a segment that is
+    /// reached directly. The original does not tell it.
+    pub entry: Option<u8>,
     /// The physical address.
     pub addr: u32,
 }
@@ -151,7 +154,8 @@ pub fn translate_via(
 ) -> Result<Physical, TranslateError> {
     let looked = ffi::rimjhodek_translate_via(&mut tlb.words, vaddr, asid, store, access.into());
     if looked.error == 0 {
-        return Ok(Physical { addr: looked.addr, cached: Cached::of(!looked.uncached) });
+        let entry = (looked.entry != ffi::NO_ENTRY).then_some(looked.entry);
+        return Ok(Physical { cached: Cached::of(!looked.uncached), entry, addr: looked.addr });
     }
     Err(TranslateError::numbered(looked.error))
 }

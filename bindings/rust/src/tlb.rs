@@ -123,6 +123,9 @@ impl TlbFault {
 pub struct Translated {
     /// Does the access bypass the caches?
     pub uncached: bool,
+    /// The number of the entry that gave the address, 0 to 31: the only one that matches. The
+    /// original does not tell it.
+    pub entry: u8,
     /// The physical address.
     pub addr: u32,
 }
@@ -201,7 +204,8 @@ impl Tlb {
     pub fn lookup(&mut self, vaddr: u64, asid: u8, store: bool) -> Result<Translated, TlbFault> {
         let looked = ffi::rimjhodek_lookup(&mut self.words, vaddr, asid, store);
         if looked.error == 0 {
-            return Ok(Translated { addr: looked.addr, uncached: looked.uncached });
+            let ffi::Looked { uncached, entry, addr, .. } = looked;
+            return Ok(Translated { uncached, entry, addr });
         }
         Err(TlbFault::numbered(looked.error))
     }

@@ -25,7 +25,7 @@ macro_rules! layout {
 fn sizes_and_offsets() {
     layout!(Flag, 2, refused = 0, is = 1);
     layout!(Number, 16, refused = 0, value = 8);
-    layout!(Looked, 8, error = 0, uncached = 1, addr = 4);
+    layout!(Looked, 8, error = 0, uncached = 1, entry = 2, addr = 4);
     layout!(Granted, 4, refused = 0, mode = 1, wide = 2, erl = 3);
     layout!(Reached, 8, refused = 0, kind = 1, cached = 2, addr = 4);
     layout!(Exc, 4, number = 0, store = 1, wide = 2, unit = 3);
@@ -168,16 +168,19 @@ fn the_micro_tlb_is_lent_in_order() {
 fn looked_comes_out() {
     let mut tlb = table();
     let mut look = |vaddr, store| ffi::rimjhodek_lookup(&mut tlb.words, vaddr, 7, store);
-    let even = Looked { error: 0, uncached: true, addr: 0xABCD_E678 };
-    let odd = Looked { error: 0, uncached: false, addr: 0x1234_5678 };
+    let even = Looked { error: 0, uncached: true, entry: 5, addr: 0xABCD_E678 };
+    let odd = Looked { error: 0, uncached: false, entry: 5, addr: 0x1234_5678 };
     assert_eq!(look(0x1_2678, true), even);
     assert_eq!(look(0x1_3678, false), odd);
-    let fault = |error| Looked { error, uncached: false, addr: 0 };
+    let fault = |error| Looked { error, uncached: false, entry: 32, addr: 0 };
     assert_eq!(look(0x4_0000, false), fault(1));
     assert_eq!(look(0x1_3678, true), fault(3));
     let user = By { mode: 2, wide: false, erl: false };
     let refused = ffi::rimjhodek_translate_via(&mut tlb.words, 0x8000_0000, 7, false, user);
     assert_eq!(refused, fault(4));
+    let direct = By { mode: 0, wide: false, erl: true };
+    let reached = ffi::rimjhodek_translate_via(&mut tlb.words, 0x1_2678, 7, true, direct);
+    assert_eq!(reached, Looked { error: 0, uncached: true, entry: 32, addr: 0x1_2678 });
     assert_eq!(tlb, table());
 }
 

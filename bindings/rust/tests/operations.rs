@@ -76,8 +76,8 @@ fn entries_are_written_found_and_read() {
     let (mut tlb, mut cop0) = mapped(5 + 32);
     assert!(tlb.entry(5).lo0.uncached());
     assert_eq!((Tlb::page_size(0), Tlb::pair_size(0)), (0x1000, 0x2000));
-    let even = Translated { addr: 0xABCD_E678, uncached: true };
-    let odd = Translated { addr: 0x1234_5678, uncached: false };
+    let even = Translated { addr: 0xABCD_E678, uncached: true, entry: 5 };
+    let odd = Translated { addr: 0x1234_5678, uncached: false, entry: 5 };
     assert_eq!(tlb.lookup(0x1_2678, 7, true), Ok(even));
     assert_eq!(tlb.lookup(0x1_3678, 7, false), Ok(odd));
     assert_eq!(tlb.lookup(0x1_3678, 7, true), Err(TlbFault::Modified));
@@ -89,6 +89,20 @@ fn entries_are_written_found_and_read() {
     assert_eq!(cop0.read(reg::INDEX), 0x8000_0000);
     tlb.read_entry(5, &mut cop0);
     assert_eq!(cop0.read(reg::ENTRY_HI), 0x1_2007);
+}
+
+/// By each entry in turn, and through it to the entry itself.
+#[test]
+fn the_entry_that_answered() {
+    for i in 0..JTLB_ENTRIES {
+        let (mut tlb, _) = mapped(i);
+        let found = tlb.lookup(0x1_2678, 7, true).expect("it is mapped");
+        assert_eq!(usize::from(found.entry), i);
+        assert_eq!(tlb.entry(found.entry.into()).vpn2, 0x1_2000);
+        let kernel = Access::kernel();
+        let reached = addr::translate_via(&mut tlb, 0x1_2678, 7, true, kernel);
+        assert_eq!(reached.map(|to| to.entry), Ok(Some(found.entry)));
+    }
 }
 
 #[test]
@@ -122,12 +136,12 @@ fn addresses_are_translated() {
     let kernel = Access::kernel();
     let mut translate =
         |vaddr, store, access| addr::translate_via(&mut tlb, vaddr, 7, store, access);
-    let cached = |addr| Ok(Physical { addr, cached: Cached::Yes });
-    let uncached = |addr| Ok(Physical { addr, cached: Cached::No });
-    assert_eq!(translate(0xFFFF_FFFF_8000_1000, true, kernel), cached(0x1000));
-    assert_eq!(translate(0xFFFF_FFFF_A000_1000, true, kernel), uncached(0x1000));
-    assert_eq!(translate(0x1_2678, true, kernel), uncached(0xABCD_E678));
-    assert_eq!(translate(0x1_3678, false, kernel), cached(0x1234_5678));
+    let cached = |addr, entry| Ok(Physical { addr, cached: Cached::Yes, entry });
+    let uncached = |addr, entry| Ok(Physical { addr, cached: Cached::No, entry });
+    assert_eq!(translate(0xFFFF_FFFF_8000_1000, true, kernel), cached(0x1000, None));
+    assert_eq!(translate(0xFFFF_FFFF_A000_1000, true, kernel), uncached(0x1000, None));
+    assert_eq!(translate(0x1_2678, true, kernel), uncached(0xABCD_E678, Some(5)));
+    assert_eq!(translate(0x1_3678, false, kernel), cached(0x1234_5678, Some(5)));
     let fault = |fault| Err(TranslateError::Tlb(fault));
     assert_eq!(translate(0x1_3678, true, kernel), fault(TlbFault::Modified));
     assert_eq!(translate(0x4_0000, true, kernel), fault(TlbFault::Refill));

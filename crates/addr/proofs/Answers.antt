@@ -75,10 +75,10 @@ error-undone (Tlb fault.Modified) = refl
 abbrev pub translateAt : List ℕ → TranslateAnswer
 translateAt [] = Failed Address
 translateAt (n ∷ []) = Failed (errorAt n)
-translateAt (p ∷ c ∷ vs) = At (record { addr = p; cached = cachedAt c })
+translateAt (p ∷ c ∷ vs) = At (record { addr = p; cached = cachedAt c; entry = getD vs 0 0 })
 
 pub translate-undone : (a : TranslateAnswer) → translateAt (toldTranslate a .values) ≡ a
-translate-undone (At p) = ap (λ (c : Cached). At (record { addr = p .addr; cached = c })) (cached-undone (p .cached))
+translate-undone (At p) = ap (λ (c : Cached). At (record { addr = p .addr; cached = c; entry = p .entry })) (cached-undone (p .cached))
 translate-undone (Failed e) = ap Failed (error-undone e)
 
 pub translate-one : (a a′ : TranslateAnswer) → toldTranslate a ≡ toldTranslate a′ → a ≡ a′

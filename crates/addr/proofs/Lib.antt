@@ -1,5 +1,6 @@
 pub mod Answers
 pub mod SegmentLaws
 pub mod TranslateLaws
+pub mod WhichEntry
 pub mod Limits
 pub mod Unique

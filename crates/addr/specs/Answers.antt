@@ -42,7 +42,7 @@ abbrev pub errorNumber : TranslateError → ℕ
 errorNumber (Tlb f) = faultNumber f
 errorNumber Address = 3
 
--- the physical address and its caching; one value alone where there is no address
+-- the physical address, its caching and the entry's number; one value alone where there is no address
 abbrev pub toldTranslate : TranslateAnswer → Told
-toldTranslate (At p) = answered (p .addr ∷ cachedNumber (p .cached) ∷ [])
+toldTranslate (At p) = answered (p .addr ∷ cachedNumber (p .cached) ∷ p .entry ∷ [])
 toldTranslate (Failed e) = answered (errorNumber e ∷ [])

@@ -21,17 +21,18 @@ use Rattle.addr.specs.Segments.{segmentOf}
 abbrev pub Carries : LookupAnswer → TlbFault → Type 0
 Carries a r = (f : TlbFault) → a ≡ Fault f → r ≡ f
 
-abbrev pub reached : ℕ → Cached → TranslateAnswer
-reached p c = At (record { addr = p; cached = c })
+-- by entry i of the TLB
+abbrev pub reached : ℕ → Cached → ℕ → TranslateAnswer
+reached p c i = At (record { addr = p; cached = c; entry = i })
 
--- the lookup's answer, as a translation's
+-- the lookup's answer, as a translation's: its entry's number is passed on
 abbrev pub mappedAnswer : LookupAnswer → TranslateAnswer
-mappedAnswer (Found t) = reached (t .addr) (cond (t .uncached) No Yes)
+mappedAnswer (Found t) = reached (t .addr) (cond (t .uncached) No Yes) (t .entry)
 mappedAnswer (Fault f) = Failed (error.Tlb f)
 
--- by the segment, with the lookup's answer for a mapped one
+-- by the segment, with the lookup's answer for a mapped one; 32 where no entry was asked
 abbrev pub segmentAnswer : Segment → LookupAnswer → TranslateAnswer
-segmentAnswer (Direct p c) l = reached p c
+segmentAnswer (Direct p c) l = reached p c 32
 segmentAnswer Mapped l = mappedAnswer l
 segmentAnswer Invalid l = Failed error.Address
 

@@ -12,6 +12,8 @@ use tlb::TlbFault;
 pub struct Physical {
     pub addr: u32,
     pub cached: Cached,
+    // The number of the TLB's entry that gave it, or 32 where none was asked.
+    pub entry: u8,
 }
 
 // Why a translation failed. Two cases, since they raise different exceptions from different vectors.
@@ -39,7 +41,11 @@ pub fn translate_via(tlb: Tlb, vaddr: u64, asid: u8, store: bool, access: Access
 {
     match access.segment(vaddr) {
         Segment::Direct { addr, cached } => Translation {
-            answer: TranslateAnswer::At(Physical { addr, cached }),
+            answer: TranslateAnswer::At(Physical {
+                addr,
+                cached,
+                entry: 32,
+            }),
             tlb,
         },
         Segment::Invalid => Translation {
@@ -66,6 +72,7 @@ pub fn translate_via(tlb: Tlb, vaddr: u64, asid: u8, store: bool, access: Access
                 answer: TranslateAnswer::At(Physical {
                     addr: found.addr,
                     cached,
+                    entry: found.entry,
                 }),
                 tlb: after,
             }

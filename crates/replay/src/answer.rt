@@ -37,7 +37,7 @@ b = n
 c = f
 d edge f
 e refused d
-f at nf
+f at nfn
 g refill
 h invalid
 i modified

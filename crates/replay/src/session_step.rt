@@ -126,7 +126,8 @@ pub fn of_dispatch(taken: Dispatch) -> Told {
 fn of_lookup(answer: LookupAnswer) -> Told {
     match answer {
         LookupAnswer::Found(found) => {
-            Told::two(told::AT, found.addr as u64, found.uncached as u64)
+            let uncached = found.uncached as u64;
+            Told::three(told::AT, found.addr as u64, uncached, found.entry as u64)
         }
         LookupAnswer::Fault(fault) => of_fault(fault),
     }
@@ -136,7 +137,8 @@ fn of_translation(answer: TranslateAnswer) -> Told {
     match answer {
         TranslateAnswer::At(found) => {
             let cached = found.cached;
-            Told::two(told::AT, found.addr as u64, cached_flag(cached))
+            let is_cached = cached_flag(cached);
+            Told::three(told::AT, found.addr as u64, is_cached, found.entry as u64)
         }
         TranslateAnswer::Failed(error) => of_error(error),
     }

@@ -18,6 +18,7 @@ pub mod Translating
 pub mod Taking
 pub mod ExceptionSteps
 pub mod TableSteps
+pub mod WhichEntry
 pub mod Unique
 pub mod Fitting
 pub mod Pending

@@ -1,5 +1,5 @@
 -- A lookup in words, by what the scan found; and the lowest match, by asking one entry after another.
-use mathlib.Core.Path.{_≡_, refl, sym, ap, _∙_}
+use mathlib.Core.Path.{_≡_, refl, sym, ap, ap₂, _∙_}
 use mathlib.Core.Bool.{Bool, true, false}
 use mathlib.Core.List.{List, [], _∷_}
 use Prim.Native.Nat.{ℕ, _+_, _-_, _%_, _^_, _<_, _≤_}
@@ -63,12 +63,13 @@ module _ (ws : List ℕ) (v asid : ℕ) where
       on : tableIn ws .shutdown ≡ false
       on = ne-eqb (getD ws 131 0 % 2) 1 is-open
 
-      pub when-one : f < 32 → Looks store (entryAnswer (entryIn ws f) v store) ws
+      pub when-one : f < 32 → Looks store (entryAnswer f (entryIn ws f) v store) ws
       when-one h =
           let b = by-one l (rw ef at h) in
           let first : headOf l ≡ f = b .1 ∙ sym ef in
           let r = found (tableIn ws) v asid store on (hitsOf l) refl (b .0) (rw first h) in
-          (ap lookedOf (ap (λ (e : Entry). entryAnswer e v store) (sym (ap (entryAt (tableIn ws)) first ∙ entry-at ws f h)) ∙ r .0), sym (at-home ws) ∙ ap (putMicro ws) (r .1))
+          let at : entryAt (tableIn ws) (headOf l) ≡ entryIn ws f = ap (entryAt (tableIn ws)) first ∙ entry-at ws f h in
+          (ap lookedOf (ap₂ (λ (i : ℕ) (e : Entry). entryAnswer i e v store) (sym first) (sym at) ∙ r .0), sym (at-home ws) ∙ ap (putMicro ws) (r .1))
 
       pub when-none : f ≡ 32 → Looks store (Fault Refill) ws
       when-none h =

@@ -67,9 +67,9 @@ use Rattle.rimjhodek.proofs.translation.rimjhodek_translate_via.Reads a
 
 -- a lookup's answer as the session tells it
 abbrev pub toldLooked : Looked → Told
-toldLooked r = answered (cond (eqb (r .error) 0) (r .addr ∷ bit (r .uncached) ∷ []) ((r .error - 1) ∷ []))
+toldLooked r = answered (cond (eqb (r .error) 0) (r .addr ∷ bit (r .uncached) ∷ r .entry ∷ []) ((r .error - 1) ∷ []))
 
-looked-told : (a : LookupAnswer) → toldLooked (lookedOf a) ≡ toldLookup a
+pub looked-told : (a : LookupAnswer) → toldLooked (lookedOf a) ≡ toldLookup a
 looked-told (Found t) = refl
 looked-told (Fault fault.Refill) = refl
 looked-told (Fault fault.Invalid) = refl
@@ -77,12 +77,15 @@ looked-told (Fault fault.Modified) = refl
 
 -- and a translation's, which tells whether the page is cached
 abbrev pub toldTranslated : Looked → Told
-toldTranslated r = answered (cond (eqb (r .error) 0) (r .addr ∷ bit (not (r .uncached)) ∷ []) ((r .error - 1) ∷ []))
+toldTranslated r = answered (cond (eqb (r .error) 0) (r .addr ∷ bit (not (r .uncached)) ∷ r .entry ∷ []) ((r .error - 1) ∷ []))
 
-translated-told : (a : TranslateAnswer) → toldTranslated (translatedOf a) ≡ toldTranslate a
+pub translated-told : (a : TranslateAnswer) → toldTranslated (translatedOf a) ≡ toldTranslate a
 translated-told (At p) = go (p .cached)
   where
-    go : (c : Cached) → toldTranslated (translatedOf (At (record { addr = p .addr; cached = c }))) ≡ toldTranslate (At (record { addr = p .addr; cached = c }))
+    reached : Cached → TranslateAnswer
+    reached c = At (record { addr = p .addr; cached = c; entry = p .entry })
+
+    go : (c : Cached) → toldTranslated (translatedOf (reached c)) ≡ toldTranslate (reached c)
     go Yes = refl
     go No = refl
 translated-told (Failed error.Address) = refl
@@ -164,7 +167,7 @@ module _ (ws : List ℕ) (v asid : ℕ) (store : Bool) (b : By) where
   abbrev t : Tlb
   t = tableIn ws
 
-  answers : isMode (b .mode) ≡ true → viaAnswer t v asid store b ≡ translatedOf (translateAnswer t v asid store (accessIn b))
+  pub answers : isMode (b .mode) ≡ true → viaAnswer t v asid store b ≡ translatedOf (translateAnswer t v asid store (accessIn b))
   unfolding viaAnswer
   answers named = ap (λ (x : Bool). cond x (translatedOf (translateAnswer t v asid store (accessIn b))) (failed unknown)) named
 

@@ -20,7 +20,7 @@ use Rattle.rimjhodek.specs.declared.modes.By.{By}
 use Rattle.rimjhodek.specs.declared.table.Looked.{Looked}
 use Rattle.rimjhodek.specs.Modes.{isCached, accessIn, modeIn}
 use Rattle.rimjhodek.specs.Table.{tableIn, putMicro, failed, lookedOf}
-use Rattle.rimjhodek.specs.Translation.{translatedOf, viaAnswer, viaTable, isKseg, ksegAnswer}
+use Rattle.rimjhodek.specs.Translation.{translatedOf, viaAnswer, viaTable, isKseg, direct, ksegAnswer}
 use Rattle.rimjhodek.proofs.Segments.{ksegSegment, kseg-segment}
 use Rattle.rimjhodek.proofs.Slots.{at-home}
 
@@ -28,8 +28,8 @@ use Rattle.rimjhodek.proofs.Slots.{at-home}
 mapped-crosses : (a : LookupAnswer) → lookedOf a ≡ translatedOf (mappedAnswer a)
 mapped-crosses (Found t) = go (t .uncached)
   where
-    go : (b : Bool) → lookedOf (Found (record { addr = t .addr; uncached = b }))
-        ≡ translatedOf (mappedAnswer (Found (record { addr = t .addr; uncached = b })))
+    go : (b : Bool) → lookedOf (Found (record { addr = t .addr; uncached = b; entry = t .entry }))
+        ≡ translatedOf (mappedAnswer (Found (record { addr = t .addr; uncached = b; entry = t .entry })))
     go true = refl
     go false = refl
 mapped-crosses (Fault f) = refl
@@ -40,10 +40,7 @@ module _ (ws : List ℕ) (v asid : ℕ) (store : Bool) (a : Access) where
   Translates r ws′ =
       (r ≡ translatedOf (translateAnswer (tableIn ws) v asid store a)) × (ws′ ≡ putMicro ws (translateTable (tableIn ws) v asid a))
 
-  abbrev reached : ℕ → Cached → Looked
-  reached p c = record { error = 0; uncached = not (isCached c); addr = p }
-
-  pub directly : (p : ℕ) (c : Cached) → segmentOf a v ≡ Direct p c → Translates (reached p c) ws
+  pub directly : (p : ℕ) (c : Cached) → segmentOf a v ≡ Direct p c → Translates (direct p (not (isCached c))) ws
   unfolding translateAnswer translateTable
   directly p c e = rw e (refl, sym (at-home ws))
 

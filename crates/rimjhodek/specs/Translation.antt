@@ -17,7 +17,7 @@ use Rattle.rimjhodek.specs.Table.{failed}
 
 -- error 0 is none; a failure is its number and 1
 abbrev pub translatedOf : TranslateAnswer → Looked
-translatedOf (At p) = record { error = 0; uncached = not (isCached (p .cached)); addr = p .addr }
+translatedOf (At p) = record { error = 0; uncached = not (isCached (p .cached)); entry = p .entry; addr = p .addr }
 translatedOf (Failed e) = failed (1 + errorNumber e)
 
 -- a number that names no mode is refused, and changes nothing
@@ -36,9 +36,13 @@ isUseg erl v = not erl && inside 0 0x7FFF_FFFF v
 unfoldable pub isKseg : ℕ → Bool
 isKseg v = inside 0xFFFF_FFFF_8000_0000 0xFFFF_FFFF_BFFF_FFFF v
 
+-- an address that no entry gave
+abbrev pub direct : ℕ → Bool → Looked
+direct p uncached = record { error = 0; uncached = uncached; entry = 32; addr = p }
+
 -- bits 28..0, uncached in KSEG1, which bit 29 tells
 abbrev pub unmapped : ℕ → Looked
-unmapped v = record { error = 0; uncached = eqb (fieldOf v 29 29) 1; addr = fieldOf v 28 0 }
+unmapped v = direct (fieldOf v 28 0) (eqb (fieldOf v 29 29) 1)
 
 -- they are the kernel's, and an address error to the other modes
 unfoldable pub ksegAnswer : ℕ → ℕ → Looked

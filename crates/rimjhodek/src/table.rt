@@ -16,8 +16,13 @@ use tlb::Tlb;
 pub struct Looked {
     pub error: u8,
     pub uncached: bool,
+    // The number of the entry that gave the address, or `NO_ENTRY`.
+    pub entry: u8,
     pub addr: u32,
 }
+
+// Of a direct segment, and where there is no address.
+pub(crate) const NO_ENTRY: u8 = 32;
 
 #[no_mangle]
 pub extern "C" fn rimjhodek_page_size(mask: u32) -> u64
@@ -207,38 +212,40 @@ fn key_of(vaddr: u64, asid: u8) -> u64
 // What the one entry that matches answers: by the half that the bit above the offset within a page selects.
 fn answer(tlb: &[u64; 132], i: usize, vaddr: u64, store: bool) -> Looked
     requires { ⌜ i < 32 ⌝ }
-    ensures { λ r. ⌜ r ≡ lookedOf (entryAnswer (entryIn (now (tlb .entry)) i) vaddr store) ⌝ }
+    ensures { λ r. ⌜ r ≡ lookedOf (entryAnswer i (entryIn (now (tlb .entry)) i) vaddr store) ⌝ }
 {
     let at = 4 * i;
+    let entry = i as u8;
     let size = Tlb::page_size(bits::low32(tlb[at]));
     if vaddr & size == 0 {
-        return half(tlb[at + 2], size - 1, vaddr, store);
+        return half(entry, tlb[at + 2], size - 1, vaddr, store);
     }
-    half(tlb[at + 3], size - 1, vaddr, store)
+    half(entry, tlb[at + 3], size - 1, vaddr, store)
 }
 
-// What a half's word answers, where `offset` has the bits of an address within the page.
-fn half(lo: u64, offset: u64, vaddr: u64, store: bool) -> Looked
-    ensures { λ r. ⌜ r ≡ lookedOf (halfAnswer (pageOf lo) offset vaddr store) ⌝ }
+// What a half's word of entry `entry` answers, where `offset` has the bits of an address within the page.
+fn half(entry: u8, lo: u64, offset: u64, vaddr: u64, store: bool) -> Looked
+    ensures { λ r. ⌜ r ≡ lookedOf (halfAnswer entry (pageOf lo) offset vaddr store) ⌝ }
 {
     if bits::field(lo, 1, 1) != 1 {
         return failed(2);
     }
     if !store {
-        return found(lo, offset, vaddr);
+        return found(entry, lo, offset, vaddr);
     }
     if bits::field(lo, 2, 2) != 1 {
         return failed(3);
     }
-    found(lo, offset, vaddr)
+    found(entry, lo, offset, vaddr)
 }
 
-fn found(lo: u64, offset: u64, vaddr: u64) -> Looked
-    ensures { λ r. ⌜ r ≡ lookedOf (translated (pageOf lo) offset vaddr) ⌝ }
+fn found(entry: u8, lo: u64, offset: u64, vaddr: u64) -> Looked
+    ensures { λ r. ⌜ r ≡ lookedOf (translated entry (pageOf lo) offset vaddr) ⌝ }
 {
     Looked {
         error: 0,
         uncached: bits::field(lo, 5, 3) == 2,
+        entry,
         addr: bits::low32(bits::merge(offset, vaddr, bits::field(lo, 25, 6) * 4096)),
     }
 }
@@ -250,6 +257,7 @@ pub(crate) fn failed(error: u8) -> Looked
     Looked {
         error,
         uncached: false,
+        entry: NO_ENTRY,
         addr: 0,
     }
 }

@@ -5,13 +5,14 @@ ghost use Rattle.addr.specs.Segments.{segmentOf};
 ghost use Rattle.addr.specs.Translate.{translateAnswer, translateTable};
 ghost use Rattle.rimjhodek.specs.Modes.{accessIn};
 ghost use Rattle.rimjhodek.specs.Table.{tableIn, putMicro};
-ghost use Rattle.rimjhodek.specs.Translation.{translatedOf, viaAnswer, viaTable, isUseg, isKseg, unmapped, ksegAnswer};
+ghost use Rattle.rimjhodek.specs.Translation.{translatedOf, viaAnswer, viaTable, isUseg, isKseg, direct, unmapped, ksegAnswer};
 use crate::modes::By;
 use crate::modes::access_in;
 use crate::modes::is_cached;
 use crate::modes::is_mode;
 use crate::refusals::UNKNOWN;
 use crate::table::Looked;
+use crate::table::NO_ENTRY;
 use crate::table::failed;
 use crate::table::look;
 use addr::Segment;
@@ -43,11 +44,7 @@ fn translate(tlb: &mut [u64; 132], vaddr: u64, asid: u8, store: bool, access: By
         × (now (tlb .exit) ≡ putMicro (now (tlb .entry)) (translateTable (tableIn (now (tlb .entry))) vaddr asid (accessIn access))) ⌝ }
 {
     match segment_of(access, vaddr) {
-        Segment::Direct { addr, cached } => Looked {
-            error: 0,
-            uncached: !is_cached(cached),
-            addr,
-        },
+        Segment::Direct { addr, cached } => direct(addr, !is_cached(cached)),
         Segment::Mapped => look(vaddr, asid, store, tlb),
         Segment::Invalid => failed(4),
     }
@@ -98,9 +95,17 @@ fn unmapped(vaddr: u64) -> Looked
     ensures { λ r. ⌜ r ≡ unmapped vaddr ⌝ }
 {
     let addr = bits::field(vaddr, 28, 0) as u32;
+    direct(addr, bits::field(vaddr, 29, 29) == 1)
+}
+
+// An address that no entry gave.
+fn direct(addr: u32, uncached: bool) -> Looked
+    ensures { λ r. ⌜ r ≡ direct addr uncached ⌝ }
+{
     Looked {
         error: 0,
-        uncached: bits::field(vaddr, 29, 29) == 1,
+        uncached,
+        entry: NO_ENTRY,
         addr,
     }
 }

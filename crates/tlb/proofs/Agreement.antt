@@ -123,7 +123,7 @@ module _ (t : Tlb) (v asid : ℕ) where
 
   -- where it says yes, the lookup gives the answer of the only entry that matches
   pub match-answers : hasMatchOf t v asid ≡ true → hits .more ≡ false → (store : Bool)
-      → (lookupAnswer t v asid store ≡ entryAnswer (entryAt t (lowest t v asid)) v store) × (lookupTable t v asid ≡ t)
+      → (lookupAnswer t v asid store ≡ entryAnswer (lowest t v asid) (entryAt t (lowest t v asid)) v store) × (lookupTable t v asid ≡ t)
   unfolding lowest
   match-answers e m store =
       let o = is-open e in

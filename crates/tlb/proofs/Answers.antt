@@ -4,6 +4,7 @@ use mathlib.Core.Bool.{Bool, cond}
 use mathlib.Core.List.{List, [], _∷_}
 use Prim.Native.Nat.{ℕ}
 use lib.Dec.{eqb}
+use lib.ListN.{getD}
 use Rattle.bits.specs.Told.{Told}
 use Rattle.bits.proofs.Same.{one-to-one}
 use Rattle.bits.proofs.FieldLaws.{bit-undone}
@@ -22,16 +23,16 @@ fault-undone Refill = refl
 fault-undone Invalid = refl
 fault-undone Modified = refl
 
-abbrev pub translated : ℕ → Bool → Translated
-translated a u = record { addr = a; uncached = u }
+abbrev pub translated : ℕ → Bool → ℕ → Translated
+translated a u i = record { addr = a; uncached = u; entry = i }
 
 abbrev pub lookupAt : List ℕ → LookupAnswer
 lookupAt [] = Fault Refill
 lookupAt (a ∷ []) = Fault (faultOf a)
-lookupAt (a ∷ u ∷ vs) = Found (translated a (eqb u 1))
+lookupAt (a ∷ u ∷ vs) = Found (translated a (eqb u 1) (getD vs 0 0))
 
 pub lookup-undone : (a : LookupAnswer) → lookupAt (toldLookup a .values) ≡ a
-lookup-undone (Found t) = ap (λ (u : Bool). Found (translated (t .addr) u)) (bit-undone (t .uncached))
+lookup-undone (Found t) = ap (λ (u : Bool). Found (translated (t .addr) u (t .entry))) (bit-undone (t .uncached))
 lookup-undone (Fault f) = ap Fault (fault-undone f)
 
 pub lookup-one : (a a′ : LookupAnswer) → toldLookup a ≡ toldLookup a′ → a ≡ a′

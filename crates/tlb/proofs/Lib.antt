@@ -6,6 +6,7 @@ pub mod Looking
 pub mod Reading
 pub mod Answers
 pub mod OnlyMatch
+pub mod WhichEntry
 pub mod Agreement
 pub mod Unique
 pub mod WordLaws

@@ -33,7 +33,7 @@ module _ (t : Tlb) (v : ℕ) (store : Bool) where
   more (i ∷ j ∷ is) e = (refl, refl)
 
   one : (l : List ℕ) → hitsOf l .more ≡ false → hitsOf l .first < 32
-      → (answerBy t l v store ≡ entryAnswer (entryAt t (hitsOf l .first)) v store) × (tableBy t l ≡ t)
+      → (answerBy t l v store ≡ entryAnswer (hitsOf l .first) (entryAt t (hitsOf l .first)) v store) × (tableBy t l ≡ t)
   one [] e h = absurd (omega arith)
   one (i ∷ []) e h = (refl, refl)
   one (i ∷ j ∷ is) e h = absurd (true≢false e)
@@ -61,7 +61,7 @@ module _ (t : Tlb) (v asid : ℕ) (store : Bool) where
         simp open-table (sym (m .0), sym (m .1))
 
     pub found : h .more ≡ false → h .first < 32
-        → (entryAnswer (entryAt t (h .first)) v store ≡ lookupAnswer t v asid store) × (t ≡ lookupTable t v asid)
+        → (entryAnswer (h .first) (entryAt t (h .first)) v store ≡ lookupAnswer t v asid store) × (t ≡ lookupTable t v asid)
     unfolding lookupAnswer lookupTable
     found e p =
         let m = one t v store l (rw scanned at e) (rw scanned at p) in

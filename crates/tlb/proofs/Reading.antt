@@ -130,17 +130,17 @@ address-is k pfn v h hp =
     ∙ ap low32Of (merged-low 64 j v (pfn * 4096) (omega arith) (omega arith))
     ∙ mod-eq-of-lt (omega (arith, word, digits-lt (shr-lt (32 - j) j small) (mod-lt v (pow-pos j))))
 
-page-is : (k : ℕ) → k ≤ 6 → (p : PageEntry) → p .pfn < 2 ^ 20 → (v : ℕ) (store : Bool)
-    → halfAnswer p (pageSizeOf (maskAt k) - 1) v store ≡ pageAnswerAt k p v store
+page-is : (k : ℕ) → k ≤ 6 → (i : ℕ) (p : PageEntry) → p .pfn < 2 ^ 20 → (v : ℕ) (store : Bool)
+    → halfAnswer i p (pageSizeOf (maskAt k) - 1) v store ≡ pageAnswerAt k i p v store
 unfolding halfAnswer
-page-is k h p hp v store = rw (address-is k (p .pfn) v h hp)
+page-is k h i p hp v store = rw (address-is k (p .pfn) v h hp)
 
 -- what a matching entry answers is what the page that the address lies in answers
-pub answer-is : (k : ℕ) → k ≤ 6 → (e : Entry) → e .«page_mask» ≡ maskAt k → e .lo0 .pfn < 2 ^ 20 → e .lo1 .pfn < 2 ^ 20
-    → (v : ℕ) (store : Bool) → entryAnswer e v store ≡ pageAnswerAt k (halfAt k e v) v store
+pub answer-is : (k : ℕ) → k ≤ 6 → (i : ℕ) (e : Entry) → e .«page_mask» ≡ maskAt k → e .lo0 .pfn < 2 ^ 20 → e .lo1 .pfn < 2 ^ 20
+    → (v : ℕ) (store : Bool) → entryAnswer i e v store ≡ pageAnswerAt k i (halfAt k e v) v store
 unfolding entryAnswer
-answer-is k h e m h₀ h₁ v store =
-    rw (half-is k h e m v, m) (page-is k h (halfAt k e v) (either (ltb (v % (2 * sizeAt k)) (sizeAt k))) v store)
+answer-is k h i e m h₀ h₁ v store =
+    rw (half-is k h e m v, m) (page-is k h i (halfAt k e v) (either (ltb (v % (2 * sizeAt k)) (sizeAt k))) v store)
   where
     either : (b : Bool) → cond b (e .lo0) (e .lo1) .pfn < 2 ^ 20
     either true = h₀
@@ -181,6 +181,6 @@ module _ (k : ℕ) (h : k ≤ 6) (c : Cop0) (size : readOf c PageMask ≡ maskAt
   unfolding entryOf
   frame₁ = field-lt (readOf c EntryLo1) 25 6
 
-  pub written-answers : (v : ℕ) (store : Bool)
-      → entryAnswer (entryOf c) v store ≡ pageAnswerAt k (halfAt k (entryOf c) v) v store
-  written-answers = answer-is k h (entryOf c) of-size frame₀ frame₁
+  pub written-answers : (i v : ℕ) (store : Bool)
+      → entryAnswer i (entryOf c) v store ≡ pageAnswerAt k i (halfAt k (entryOf c) v) v store
+  written-answers i = answer-is k h i (entryOf c) of-size frame₀ frame₁

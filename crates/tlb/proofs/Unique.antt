@@ -24,16 +24,11 @@ use Rattle.tlb.proofs.table.Tlb.probe.Reads as probe
 use Rattle.tlb.proofs.table.Tlb.jtlb_has_match.Reads as jtlb-has-match
 use Rattle.tlb.proofs.table.Tlb.itlb_probe.Reads as itlb-probe
 use Rattle.tlb.proofs.table.Tlb.itlb_fill.Reads as itlb-fill
-use Rattle.tlb.proofs.entries.Entry.answer.Reads as entry-answer
 use Rattle.tlb.proofs.moves.page_from.Reads as page-from
 use Rattle.tlb.proofs.moves.entry_from.Reads as entry-from
 
 pub uncached-unique : (a : PageEntry × Unit {0}) (r r′ : Bool) → uncached.Post tt a r a → uncached.Post tt a r′ a → r ≡ r′
 uncached-unique a r r′ = same
-
-pub answer-unique : (a : Entry × (ℕ × (Bool × Unit {0}))) (r r′ : LookupAnswer) → entry-answer.Post tt a r a → entry-answer.Post tt a r′ a
-    → r ≡ r′
-answer-unique a r r′ p q = lookup-one r r′ (same p q)
 
 pub new-unique : (a : Unit {0}) (r r′ : Tlb) → new.Post tt a r a → new.Post tt a r′ a → r ≡ r′
 new-unique a r r′ = same

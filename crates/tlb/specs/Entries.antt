@@ -43,18 +43,20 @@ uncachedOf p = eqb (p .c) 2
 abbrev pub physicalOf : ℕ → ℕ → ℕ → ℕ
 physicalOf pfn m v = low32Of (merged m v (pfn * 4096))
 
-abbrev pub translated : PageEntry → ℕ → ℕ → LookupAnswer
-translated p m v = Found (record { addr = physicalOf (p .pfn) m v; uncached = uncachedOf p })
+-- of a half of entry i
+abbrev pub translated : ℕ → PageEntry → ℕ → ℕ → LookupAnswer
+translated i p m v = Found (record { addr = physicalOf (p .pfn) m v; uncached = uncachedOf p; entry = i })
 
 -- not valid: Invalid; a store to a half that is not dirty: Modified; else what is given
 abbrev pub permitted : PageEntry → Bool → LookupAnswer → LookupAnswer
 permitted p store given = cond (p .valid) (cond store (cond (p .dirty) given (Fault Modified)) given) (Fault Invalid)
 
-unfoldable pub halfAnswer : PageEntry → ℕ → ℕ → Bool → LookupAnswer
-halfAnswer p m v store = permitted p store (translated p m v)
+unfoldable pub halfAnswer : ℕ → PageEntry → ℕ → ℕ → Bool → LookupAnswer
+halfAnswer i p m v store = permitted p store (translated i p m v)
 
-unfoldable pub entryAnswer : Entry → ℕ → Bool → LookupAnswer
-entryAnswer e v store = halfAnswer (halfOf e v) (pageSizeOf (e .«page_mask») - 1) v store
+-- of entry i, which is e
+unfoldable pub entryAnswer : ℕ → Entry → ℕ → Bool → LookupAnswer
+entryAnswer i e v store = halfAnswer i (halfOf e v) (pageSizeOf (e .«page_mask») - 1) v store
 
 -- the number of each fault
 abbrev pub faultNumber : TlbFault → ℕ
@@ -62,7 +64,7 @@ faultNumber Refill = 0
 faultNumber Invalid = 1
 faultNumber Modified = 2
 
--- the values of each answer: the address and whether it is uncached, or the fault's number
+-- the values of each answer: the address, whether it is uncached and the entry's number, or the fault's number
 abbrev pub toldLookup : LookupAnswer → Told
-toldLookup (Found t) = answered (t .addr ∷ bit (t .uncached) ∷ [])
+toldLookup (Found t) = answered (t .addr ∷ bit (t .uncached) ∷ t .entry ∷ [])
 toldLookup (Fault f) = answered (faultNumber f ∷ [])

@@ -1,6 +1,7 @@
 pub mod Entries
 pub mod Table
 pub mod Lookup
+pub mod Former
 pub mod Micro
 pub mod Moves
 pub mod Words

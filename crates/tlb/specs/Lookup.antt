@@ -9,9 +9,10 @@ use Rattle.tlb.specs.declared.table.Tlb.{Tlb}
 use Rattle.tlb.specs.Entries.{entryAnswer}
 use Rattle.tlb.specs.Table.{entryAt, matching}
 
+-- the answer of the one entry that matches, with its number
 abbrev pub answerBy : Tlb → List ℕ → ℕ → Bool → LookupAnswer
 answerBy t [] v store = Fault Refill
-answerBy t (i ∷ []) v store = entryAnswer (entryAt t i) v store
+answerBy t (i ∷ []) v store = entryAnswer i (entryAt t i) v store
 answerBy t (i ∷ j ∷ is) v store = Fault Refill
 
 abbrev pub shutDown : Tlb → Tlb

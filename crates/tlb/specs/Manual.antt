@@ -33,11 +33,12 @@ halfAt k e v = cond (ltb (v % (2 * sizeAt k)) (sizeAt k)) (e .lo0) (e .lo1)
 abbrev pub addressAt : ℕ → ℕ → ℕ → ℕ
 addressAt k pfn v = pfn * 4096 / sizeAt k * sizeAt k + v % sizeAt k
 
-abbrev pub translatedAt : ℕ → PageEntry → ℕ → LookupAnswer
-translatedAt k p v = Found (record { addr = addressAt k (p .pfn) v; uncached = uncachedOf p })
+-- of a half of entry i
+abbrev pub translatedAt : ℕ → ℕ → PageEntry → ℕ → LookupAnswer
+translatedAt k i p v = Found (record { addr = addressAt k (p .pfn) v; uncached = uncachedOf p; entry = i })
 
-abbrev pub pageAnswerAt : ℕ → PageEntry → ℕ → Bool → LookupAnswer
-pageAnswerAt k p v store = permitted p store (translatedAt k p v)
+abbrev pub pageAnswerAt : ℕ → ℕ → PageEntry → ℕ → Bool → LookupAnswer
+pageAnswerAt k i p v store = permitted p store (translatedAt k i p v)
 
 -- the pair that an address lies in: its base, a multiple of two pages
 abbrev pub pairAt : ℕ → ℕ → ℕ

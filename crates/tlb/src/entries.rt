@@ -1,6 +1,6 @@
 // One entry: a tag and the pair of pages that it maps.
 ghost use mathlib.Core.Path.{_≡_};
-ghost use Rattle.tlb.specs.Entries.{uncachedOf, matchesOf, halfOf, translated, halfAnswer, entryAnswer, toldLookup};
+ghost use Rattle.tlb.specs.Entries.{uncachedOf, matchesOf, halfOf, translated, halfAnswer, entryAnswer};
 use crate::table::Tlb;
 
 // One half of an entry: the even or the odd page.
@@ -46,6 +46,8 @@ pub enum TlbFault {
 pub struct Translated {
     pub addr: u32,
     pub uncached: bool,
+    // The number of the entry that gave it: the only one that matches.
+    pub entry: u8,
 }
 
 pub enum LookupAnswer {
@@ -60,29 +62,29 @@ impl PageEntry {
         self.c == 2
     }
 
-    // What a half answers, where `offset` has the bits of an address within the page.
-    fn answer(self, offset: u64, vaddr: u64, store: bool) -> LookupAnswer
-        ensures { λ r. ⌜ r ≡ halfAnswer self offset vaddr store ⌝ }
+    // What a half of entry `entry` answers, where `offset` has the bits of an address within the page.
+    fn answer(self, entry: u8, offset: u64, vaddr: u64, store: bool) -> LookupAnswer
+        ensures { λ r. ⌜ r ≡ halfAnswer entry self offset vaddr store ⌝ }
     {
         if !self.valid {
             return LookupAnswer::Fault(TlbFault::Invalid);
         }
         if !store {
-            return self.found(offset, vaddr);
+            return self.found(entry, offset, vaddr);
         }
         if !self.dirty {
             return LookupAnswer::Fault(TlbFault::Modified);
         }
-        self.found(offset, vaddr)
+        self.found(entry, offset, vaddr)
     }
 
     // The frame number counts 4 KiB always, so a large page's frame has low bits that give way to the offset.
-    fn found(self, offset: u64, vaddr: u64) -> LookupAnswer
-        ensures { λ r. ⌜ r ≡ translated self offset vaddr ⌝ }
+    fn found(self, entry: u8, offset: u64, vaddr: u64) -> LookupAnswer
+        ensures { λ r. ⌜ r ≡ translated entry self offset vaddr ⌝ }
     {
         let addr = bits::low32(bits::merge(offset, vaddr, self.pfn as u64 * 4096));
         let uncached = self.uncached();
-        LookupAnswer::Found(Translated { addr, uncached })
+        LookupAnswer::Found(Translated { addr, uncached, entry })
     }
 }
 
@@ -115,11 +117,11 @@ impl Entry {
         self.lo1
     }
 
-    // What the one matching entry answers.
-    pub fn answer(self, vaddr: u64, store: bool) -> LookupAnswer
-        ensures { λ r. ⌜ toldLookup r ≡ toldLookup (entryAnswer self vaddr store) ⌝ }
+    // What the one matching entry answers. An entry does not know its number, so the table says it.
+    pub(crate) fn answer(self, entry: u8, vaddr: u64, store: bool) -> LookupAnswer
+        ensures { λ r. ⌜ r ≡ entryAnswer entry self vaddr store ⌝ }
     {
         let half = self.half(vaddr);
-        half.answer(Tlb::page_size(self.page_mask) - 1, vaddr, store)
+        half.answer(entry, Tlb::page_size(self.page_mask) - 1, vaddr, store)
     }
 }

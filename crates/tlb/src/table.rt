@@ -95,7 +95,7 @@ impl Tlb {
         if first < 32 {
             let e = self.entries[first];
             return Looked {
-                answer: e.answer(vaddr, store),
+                answer: e.answer(first as u8, vaddr, store),
                 tlb: self,
             };
         }

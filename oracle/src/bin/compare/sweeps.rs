@@ -7,7 +7,7 @@ use crate::rng::Rng;
 use crate::{addresses, aim, cache_sweeps, exception_sweeps, exceptions};
 
 /// Those of one trace.
-const SINGLE: [fn(&mut Draft); 23] = [
+const SINGLE: [fn(&mut Draft); 24] = [
     every_number,
     every_interrupt,
     every_edge,
@@ -15,6 +15,7 @@ const SINGLE: [fn(&mut Draft); 23] = [
     every_access,
     every_field,
     every_half,
+    every_entry,
     every_compared_bit,
     exception_sweeps::every_vector,
     exception_sweeps::every_cause_bit,
@@ -186,6 +187,37 @@ fn every_half(draft: &mut Draft) {
             let vaddr = 0x12_3456_6ABC | (access & 1) << 12;
             draft.put("lookup", &[vaddr, 0x55 ^ (access >> 1 & 1), access >> 2]);
         }
+    }
+}
+
+/// Each entry in turn as the one that answers, by either half, in every mode, and beside it the
+/// addresses that need no entry; then each as the second that matches.
+fn every_entry(draft: &mut Draft) {
+    let pair = |number: u64| 0x10_0000 + number * 0x2000;
+    draft.put("mtc0", &[reg::ENTRY_LO0.into(), 0x7E]);
+    draft.put("mtc0", &[reg::ENTRY_LO1.into(), 0x96]);
+    for number in 0..32 {
+        draft.put("dmtc0", &[reg::ENTRY_HI.into(), pair(number)]);
+        draft.put("write_entry", &[number]);
+    }
+    for number in 0..32 {
+        for vaddr in [pair(number), pair(number) + 0x1FFF] {
+            draft.put("lookup", &[vaddr, 0, 1]);
+            for access in 0..12 {
+                let (mode, wide, erl) = (access / 4, access / 2 % 2, access % 2);
+                draft.put("translate_via", &[vaddr, 0, 1, mode, wide, erl]);
+            }
+            draft.put("translate_via", &[0xFFFF_FFFF_8000_0000 | vaddr, 0, 1, 0, 0, 0]);
+        }
+    }
+    for number in 0..32 {
+        draft.put("new", &[]);
+        draft.put("mtc0", &[reg::ENTRY_LO0.into(), 0x7E]);
+        draft.put("mtc0", &[reg::ENTRY_HI.into(), 0x4000]);
+        draft.put("write_entry", &[16]);
+        draft.put("write_entry", &[number]);
+        draft.put("lookup", &[0x4000, 0, 1]);
+        draft.put("is_shutdown", &[]);
     }
 }
 

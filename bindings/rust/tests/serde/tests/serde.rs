@@ -70,10 +70,11 @@ fn all_that_the_original_derives_it_for() {
     goes_and_comes(access);
     goes_and_comes(addr::segment(0xFFFF_FFFF_8000_1000, Access::kernel()));
     goes_and_comes(Segment::Mapped);
-    goes_and_comes(Physical { addr: 0x1234, cached: Cached::No });
+    goes_and_comes(Physical { addr: 0x1234, cached: Cached::No, entry: Some(31) });
+    goes_and_comes(Physical { addr: 0x1234, cached: Cached::Yes, entry: None });
     goes_and_comes(TranslateError::Tlb(TlbFault::Modified));
     goes_and_comes(TranslateError::Address);
-    goes_and_comes(Translated { addr: 0x1234, uncached: true });
+    goes_and_comes(Translated { addr: 0x1234, uncached: true, entry: 31 });
     goes_and_comes(Writeback { addr: 0x1230, data: [7; 16] });
     goes_and_comes(Writeback { addr: 0x1220, data: [7; 32] });
     goes_and_comes(Dispatch { vector: u64::MAX, stall_cycles: 2 });

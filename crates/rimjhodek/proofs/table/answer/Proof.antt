@@ -11,6 +11,9 @@ use Rattle.rimjhodek.proofs.table.answer.Tie as tie
 mul-at : tie.Need-mul-at
 mul-at c = search needs
 
+cast-entry : tie.Need-cast-entry
+cast-entry c = search needs
+
 mul-low32 : tie.Need-mul-low32
 mul-low32 c = search needs
 
@@ -70,6 +73,7 @@ answer-spec =
     tie.close
     (tie.spec
     mul-at
+    cast-entry
     mul-low32
     element-copy-out-low32
     low32-requires

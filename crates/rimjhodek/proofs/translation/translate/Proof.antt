@@ -16,6 +16,9 @@ enum-known-addr c = search needs
 is-cached-requires : tie.Need-is-cached-requires
 is-cached-requires c κs = search needs
 
+direct-requires : tie.Need-direct-requires
+direct-requires c κs = search needs
+
 enum-told : tie.Need-enum-told
 enum-told c = search needs
 
@@ -30,11 +33,12 @@ failed-requires c κs = search needs
 
 returns : tie.Need-returns
 returns c =
-    let g = c .before .before .before .before in
+    let i = c .before in
+    let g = i .before .before .before .before in
     let a = g .before .args in
     let e = segment-told (g .segment-of .result) (accessIn (a .access)) (a .vaddr) (g .segment-of .ensures) in
-    rw (c .is-cached .ensures)
-    (directly (a .tlb .now) (a .vaddr) (a .asid) (a .store) (accessIn (a .access)) _ _ (e ∙ c .before .before .addr .given .1))
+    rw (c .direct .ensures, i .is-cached .ensures)
+    (directly (a .tlb .now) (a .vaddr) (a .asid) (a .store) (accessIn (a .access)) _ _ (e ∙ i .before .before .addr .given .1))
 
 returns-2 : tie.Need-returns-2
 returns-2 c =
@@ -59,6 +63,7 @@ translate-spec =
     segment-of-requires
     enum-known-addr
     is-cached-requires
+    direct-requires
     enum-told
     look-requires
     enum-told-2

@@ -34,6 +34,9 @@ mul-e c = search needs
 element-copy-out-e : tie.Need-element-copy-out-e
 element-copy-out-e c = search needs
 
+cast-answer : tie.Need-cast-answer
+cast-answer c = search needs
+
 answer-requires : tie.Need-answer-requires
 answer-requires c κs = search needs
 
@@ -43,7 +46,7 @@ returns-3 c =
     let r = found (a .t1) (a .vaddr) (a .asid) (a .store) (c .before .before .before .before .before .if1 .left) _
     (c .before .before .before .before .scan .ensures) (c .before .before .before .if2 .left)
     (c .before .before .if3 .taken) in
-    (c .answer .ensures ∙ ap toldLookup (r .0), r .1)
+    (ap toldLookup (c .answer .ensures ∙ r .0), r .1)
 
 fault-requires-3 : tie.Need-fault-requires-3
 fault-requires-3 c κs = search needs
@@ -68,6 +71,7 @@ lookup-spec =
     returns-2
     mul-e
     element-copy-out-e
+    cast-answer
     answer-requires
     returns-3
     fault-requires-3
