@@ -1,24 +1,25 @@
--- A segment by what it was told as; of an address of the low 2 GB; and of one of KSEG0 or KSEG1, by the rows that these meet.
+-- A segment by what it was told as; of an address of the low 2 GB; and of one of the kernel's KSEG0 or KSEG1, by the row that it meets.
 use mathlib.Core.Path.{_≡_, refl, sym, ap, _∙_}
 use mathlib.Core.Bool.{Bool, true, false, cond, not, _&&_, _||_, and-false, false≢true}
 use mathlib.Core.List.{List, [], _∷_}
 use Prim.Native.Nat.{ℕ, _<_, _≤_}
 use native.Mathlib.Decide.{decLt}
 use native.Mathlib.Omega.{arith}
-use lib.Dec.{eqb, leb, ltb}
+use lib.Dec.{leb, ltb}
 use borrow.Author.Tests.{le-leb, lt-leb, le-ltb, ltb-true, leb-true}
 use Rattle.bits.specs.Field.{fieldOf}
 use Rattle.bits.proofs.Tables.{and-left, and-right}
 use Rattle.addr.specs.declared.access.Mode.{Mode}
 use Rattle.addr.specs.declared.access.Mode.the-variants.{Kernel, Supervisor, User}
 use Rattle.addr.specs.declared.access.Access.{Access}
+use Rattle.addr.specs.declared.segments.Cached.{Cached}
 use Rattle.addr.specs.declared.segments.Cached.the-variants.{Yes, No}
 use Rattle.addr.specs.declared.segments.Segment.{Segment}
-use Rattle.addr.specs.declared.segments.Segment.the-variants.{Direct, Mapped, Invalid}
+use Rattle.addr.specs.declared.segments.Segment.the-variants.{Direct, Mapped}
 use Rattle.addr.specs.Answers.{toldSegment}
-use Rattle.addr.specs.Segments.{direct, SegmentRow, row, inside, segmentIn, rowsOf, erlRow, tableOf, segmentOf}
+use Rattle.addr.specs.Segments.{direct, how, SegmentRow, row, inside, segmentIn, rowsOf, erlRow, tableOf, segmentOf}
 use Rattle.addr.proofs.Answers.{segment-one}
-use Rattle.rimjhodek.specs.Translation.{isUseg, isKseg}
+use Rattle.rimjhodek.specs.Translation.{isUseg, isKseg0, isKseg1}
 
 pub segment-told : (g : Segment) (a : Access) (v : ℕ) → toldSegment g ≡ toldSegment (segmentOf a v) → segmentOf a v ≡ g
 segment-told g a v e = sym (segment-one g (segmentOf a v) e)
@@ -78,61 +79,39 @@ module _ (f l v : ℕ) (hf : f ≤ v) (hl : v ≤ l) where
       go true e rest = rw (outside r e) rest
       go false e rest = rw rest
 
--- the addresses of KSEG0 and KSEG1
-abbrev first : ℕ
-first = 0xFFFF_FFFF_8000_0000
+-- KSEG0 and KSEG1
+abbrev kseg : Cached → SegmentRow
+kseg Yes = row 0xFFFF_FFFF_8000_0000 0xFFFF_FFFF_9FFF_FFFF (direct 28 Yes)
+kseg No = row 0xFFFF_FFFF_A000_0000 0xFFFF_FFFF_BFFF_FFFF (direct 28 No)
 
-abbrev last : ℕ
-last = 0xFFFF_FFFF_BFFF_FFFF
+-- each meets one row of the kernel's, in either width, with ERL or without
+one-met : (c : Cached) (wide erl : Bool)
+    → met (kseg c .first) (kseg c .last) (cond erl (erlRow ∷ rowsOf Kernel wide) (rowsOf Kernel wide)) ≡ kseg c ∷ []
+one-met Yes true true = refl
+one-met Yes true false = refl
+one-met Yes false true = refl
+one-met Yes false false = refl
+one-met No true true = refl
+one-met No true false = refl
+one-met No false true = refl
+one-met No false false = refl
 
--- the rows that they meet, in either width, with ERL or without
-abbrev ksegRows : Mode → List SegmentRow
-ksegRows Kernel = row first 0xFFFF_FFFF_9FFF_FFFF (direct 28 Yes) ∷ row 0xFFFF_FFFF_A000_0000 last (direct 28 No) ∷ []
-ksegRows Supervisor = []
-ksegRows User = []
+at-bits : (c : Cached) (v : ℕ) → how (kseg c .kind) v ≡ Direct (fieldOf v 28 0) c
+at-bits Yes v = refl
+at-bits No v = refl
 
-rows-met : (m : Mode) (wide : Bool) → met first last (rowsOf m wide) ≡ ksegRows m
-rows-met Kernel true = refl
-rows-met Kernel false = refl
-rows-met Supervisor true = refl
-rows-met Supervisor false = refl
-rows-met User true = refl
-rows-met User false = refl
+kseg-segment : (c : Cached) (a : Access) (v : ℕ) → a .mode ≡ Kernel → inside (kseg c .first) (kseg c .last) v ≡ true
+    → segmentOf a v ≡ Direct (fieldOf v 28 0) c
+unfolding segmentOf
+kseg-segment c a v m e =
+    let h = within (kseg c .first) (kseg c .last) v e in
+    let met-is : met (kseg c .first) (kseg c .last) (tableOf a) ≡ kseg c ∷ [] = rw m (one-met c (a .wide) (a .erl)) in
+    by-met (kseg c .first) (kseg c .last) v (h .0) (h .1) (tableOf a) ∙ rw (met-is, e) (at-bits c v)
 
-table-met : (m : Mode) (wide erl : Bool) → met first last (cond erl (erlRow ∷ rowsOf m wide) (rowsOf m wide)) ≡ ksegRows m
-table-met m wide true = rows-met m wide
-table-met m wide false = rows-met m wide
+pub kseg0-segment : (a : Access) (v : ℕ) → a .mode ≡ Kernel → isKseg0 v ≡ true → segmentOf a v ≡ Direct (fieldOf v 28 0) Yes
+unfolding isKseg0
+kseg0-segment = kseg-segment Yes
 
-abbrev pub ksegSegment : Mode → ℕ → Segment
-ksegSegment Kernel v = Direct (fieldOf v 28 0) (cond (eqb (fieldOf v 29 29) 1) No Yes)
-ksegSegment Supervisor v = Invalid
-ksegSegment User v = Invalid
-
-module _ (v : ℕ) (hf : first ≤ v) (hl : v ≤ last) where
-  by-row : (m : Mode) → segmentIn (ksegRows m) v ≡ ksegSegment m v
-  unfolding inside
-  by-row Kernel = go (decLt v 0xFFFF_FFFF_A000_0000)
-    where
-      go : Dec (v < 0xFFFF_FFFF_A000_0000) → segmentIn (ksegRows Kernel) v ≡ ksegSegment Kernel v
-      go (yes p) =
-          let b : fieldOf v 29 29 ≡ 0 = omega (arith, p, hf) in
-          rw (le-leb first v hf, le-leb v 0xFFFF_FFFF_9FFF_FFFF (omega (arith, p)), b)
-      go (no p) =
-          let b : fieldOf v 29 29 ≡ 1 = omega (arith, p, hl) in
-          rw (
-            le-leb first v hf,
-            lt-leb v 0xFFFF_FFFF_9FFF_FFFF (omega (arith, p)),
-            le-leb 0xFFFF_FFFF_A000_0000 v (omega (arith, p)),
-            le-leb v last hl,
-            b,
-          )
-  by-row Supervisor = refl
-  by-row User = refl
-
-pub kseg-segment : (a : Access) (v : ℕ) → isKseg v ≡ true → segmentOf a v ≡ ksegSegment (a .mode) v
-unfolding segmentOf isKseg
-kseg-segment a v e =
-    let h = within first last v e in
-    by-met first last v (h .0) (h .1) (tableOf a)
-    ∙ ap (λ (rs : List SegmentRow). segmentIn rs v) (table-met (a .mode) (a .wide) (a .erl))
-    ∙ by-row v (h .0) (h .1) (a .mode)
+pub kseg1-segment : (a : Access) (v : ℕ) → a .mode ≡ Kernel → isKseg1 v ≡ true → segmentOf a v ≡ Direct (fieldOf v 28 0) No
+unfolding isKseg1
+kseg1-segment = kseg-segment No

@@ -1,15 +1,13 @@
--- A translation, by the segment of the address; and one in KSEG0 or KSEG1, by the mode.
-use mathlib.Core.Path.{_≡_, refl, sym, _∙_}
-use mathlib.Core.Bool.{Bool, true, false, not, cond}
+-- A translation, by the segment of the address; and one in the kernel's KSEG0 or KSEG1.
+use mathlib.Core.Path.{_≡_, refl, sym, ap, _∙_}
+use mathlib.Core.Bool.{Bool, true, false, not}
 use mathlib.Core.List.{List}
-use Prim.Native.Nat.{ℕ, zero, suc}
-use native.Mathlib.Omega.{arith}
-use lib.Dec.{eqb}
-use borrow.Author.Tests.{ne-eqb, le-ltb}
+use Prim.Native.Nat.{ℕ}
 use Rattle.bits.specs.Field.{fieldOf}
 use Rattle.tlb.specs.declared.entries.LookupAnswer.{LookupAnswer}
 use Rattle.tlb.specs.declared.entries.LookupAnswer.the-variants.{Found, Fault}
 use Rattle.tlb.specs.Lookup.{lookupAnswer, lookupTable}
+use Rattle.addr.specs.declared.access.Mode.the-variants.{Kernel}
 use Rattle.addr.specs.declared.access.Access.{Access}
 use Rattle.addr.specs.declared.segments.Cached.{Cached}
 use Rattle.addr.specs.declared.segments.Cached.the-variants.{Yes, No}
@@ -18,10 +16,10 @@ use Rattle.addr.specs.Segments.{segmentOf}
 use Rattle.addr.specs.Translate.{mappedAnswer, translateAnswer, translateTable}
 use Rattle.rimjhodek.specs.declared.modes.By.{By}
 use Rattle.rimjhodek.specs.declared.table.Looked.{Looked}
-use Rattle.rimjhodek.specs.Modes.{isCached, accessIn, modeIn}
+use Rattle.rimjhodek.specs.Modes.{isMode, isCached, accessIn, modeIn}
 use Rattle.rimjhodek.specs.Table.{tableIn, putMicro, failed, lookedOf}
-use Rattle.rimjhodek.specs.Translation.{translatedOf, viaAnswer, viaTable, isKseg, direct, ksegAnswer}
-use Rattle.rimjhodek.proofs.Segments.{ksegSegment, kseg-segment}
+use Rattle.rimjhodek.specs.Translation.{translatedOf, viaAnswer, viaTable, isKseg0, isKseg1, direct, unmapped}
+use Rattle.rimjhodek.proofs.Segments.{kseg0-segment, kseg1-segment}
 use Rattle.rimjhodek.proofs.Slots.{at-home}
 
 -- a lookup's answer crosses as the translation's that it becomes
@@ -53,29 +51,23 @@ module _ (ws : List ℕ) (v asid : ℕ) (store : Bool) (a : Access) where
   unfolding translateAnswer translateTable
   nowhere e = rw e (refl, sym (at-home ws))
 
--- KSEG0 and KSEG1, a mode at a time
-module _ (ws : List ℕ) (v asid : ℕ) (store : Bool) (a : By) where
-  abbrev by : ℕ → By
-  by n = record { mode = n; wide = a .wide; erl = a .erl }
+-- KSEG0 and KSEG1 in kernel mode
+module _ (ws : List ℕ) (v asid : ℕ) (store : Bool) (a : By) (kernel : a .mode ≡ 0) where
+  abbrev Goes : Looked → Type 0
+  Goes r = (r ≡ viaAnswer (tableIn ws) v asid store a) × (ws ≡ putMicro ws (viaTable (tableIn ws) v asid a))
 
-  abbrev Goes : ℕ → Type 0
-  Goes n =
-      (ksegAnswer n v ≡ viaAnswer (tableIn ws) v asid store (by n)) × (ws ≡ putMicro ws (viaTable (tableIn ws) v asid (by n)))
+  by-kseg : (c : Cached) → segmentOf (accessIn a) v ≡ Direct (fieldOf v 28 0) c → Goes (unmapped v (not (isCached c)))
+  unfolding viaAnswer viaTable
+  by-kseg c e =
+      let named : isMode (a .mode) ≡ true = ap isMode kernel in
+      rw named (directly ws v asid store (accessIn a) (fieldOf v 28 0) c e)
 
-  uncached-is : (b : Bool) → not (isCached (cond b No Yes)) ≡ b
-  uncached-is true = refl
-  uncached-is false = refl
+  mode-is : accessIn a .mode ≡ Kernel
+  unfolding modeIn
+  mode-is = ap modeIn kernel
 
-  by-mode : (n : ℕ) → segmentOf (accessIn (by n)) v ≡ ksegSegment (modeIn n) v → Goes n
-  unfolding ksegAnswer viaAnswer viaTable modeIn
-  by-mode zero e =
-      let b = eqb (fieldOf v 29 29) 1 in
-      rw (uncached-is b) at (directly ws v asid store (accessIn (by 0)) (fieldOf v 28 0) (cond b No Yes) e)
-  by-mode (suc zero) e = nowhere ws v asid store (accessIn (by 1)) e
-  by-mode (suc (suc zero)) e = nowhere ws v asid store (accessIn (by 2)) e
-  by-mode (suc (suc (suc n))) e =
-      let k : ℕ = suc (suc (suc n)) in
-      rw (ne-eqb k 0 (λ q. omega (arith, q)), le-ltb k 3 (omega arith)) (refl, sym (at-home ws))
+  pub in-kseg0 : isKseg0 v ≡ true → Goes (unmapped v false)
+  in-kseg0 e = by-kseg Yes (kseg0-segment (accessIn a) v mode-is e)
 
-  pub in-kseg : isKseg v ≡ true → Goes (a .mode)
-  in-kseg e = by-mode (a .mode) (kseg-segment (accessIn a) v e)
+  pub in-kseg1 : isKseg1 v ≡ true → Goes (unmapped v true)
+  in-kseg1 e = by-kseg No (kseg1-segment (accessIn a) v mode-is e)

@@ -52,12 +52,16 @@ keyHits mask hi lo0 key =
     eqb (cleared (low32Of mask) (tagOf key)) (cleared (low32Of mask) (tagOf hi))
     && (eqb (fieldOf lo0 0 0) 1 || eqb (fieldOf hi 7 0) (fieldOf key 7 0))
 
-abbrev pub wordHits : List ℕ → ℕ → ℕ → Bool
-wordHits ws i key = keyHits (getD ws (4 * i) 0) (wordIn ws i 1) (wordIn ws i 2) key
+-- the entry whose words begin at place `at`
+abbrev pub hitsAt : List ℕ → ℕ → ℕ → Bool
+hitsAt ws at key = keyHits (getD ws at 0) (getD ws (at + 1) 0) (getD ws (at + 2) 0) key
 
--- what is found, with one more entry asked
+abbrev pub wordHits : List ℕ → ℕ → ℕ → Bool
+wordHits ws i key = hitsAt ws (4 * i) key
+
+-- the place that is found, with one more entry asked
 unfoldable pub turned : Bool → ℕ → ℕ → ℕ
-turned hit i found = cond hit (cond (eqb found 32) i 64) found
+turned hit at found = cond hit (cond (eqb found 128) at 256) found
 
 -- the table that 132 words mean; of the slots and the next slot the low 8 bits, of the shutdown the lowest
 abbrev pub tableIn : List ℕ → Tlb

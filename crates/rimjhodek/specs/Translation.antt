@@ -1,7 +1,6 @@
 -- A translation as it crosses.
 use mathlib.Core.Bool.{Bool, cond, not, _&&_}
 use Prim.Native.Nat.{ℕ, _+_}
-use lib.Dec.{eqb}
 use Rattle.bits.specs.Field.{fieldOf}
 use Rattle.tlb.specs.declared.table.Tlb.{Tlb}
 use Rattle.addr.specs.declared.translate.TranslateAnswer.{TranslateAnswer}
@@ -32,18 +31,17 @@ viaTable t v asid a = cond (isMode (a .mode)) (translateTable t v asid (accessIn
 unfoldable pub isUseg : Bool → ℕ → Bool
 isUseg erl v = not erl && inside 0 0x7FFF_FFFF v
 
--- KSEG0 and KSEG1, one after the other (5.2.4)
-unfoldable pub isKseg : ℕ → Bool
-isKseg v = inside 0xFFFF_FFFF_8000_0000 0xFFFF_FFFF_BFFF_FFFF v
+-- KSEG0, which is cached, and KSEG1, which is not (5.2.4)
+unfoldable pub isKseg0 : ℕ → Bool
+isKseg0 v = inside 0xFFFF_FFFF_8000_0000 0xFFFF_FFFF_9FFF_FFFF v
+
+unfoldable pub isKseg1 : ℕ → Bool
+isKseg1 v = inside 0xFFFF_FFFF_A000_0000 0xFFFF_FFFF_BFFF_FFFF v
 
 -- an address that no entry gave
 abbrev pub direct : ℕ → Bool → Looked
 direct p uncached = record { error = 0; uncached = uncached; entry = 32; addr = p }
 
--- bits 28..0, uncached in KSEG1, which bit 29 tells
-abbrev pub unmapped : ℕ → Looked
-unmapped v = direct (fieldOf v 28 0) (eqb (fieldOf v 29 29) 1)
-
--- they are the kernel's, and an address error to the other modes
-unfoldable pub ksegAnswer : ℕ → ℕ → Looked
-ksegAnswer mode v = cond (eqb mode 0) (unmapped v) (failed (cond (isMode mode) 4 unknown))
+-- bits 28..0
+abbrev pub unmapped : ℕ → Bool → Looked
+unmapped v uncached = direct (fieldOf v 28 0) uncached

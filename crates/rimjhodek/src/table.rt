@@ -1,13 +1,13 @@
 // The TLB as 132 words: entry i is words 4i to 4i + 3 (PageMask, EntryHi, EntryLo0, EntryLo1), then the micro-TLB's two slots, its
 // next slot, and whether the TLB is shut down.
 ghost use mathlib.Core.Path.{_≡_};
-ghost use Prim.Native.Nat.{_<_, _+_, _*_, _%_, _^_};
+ghost use Prim.Native.Nat.{_<_, _+_, _*_, _/_, _%_, _^_};
 ghost use Rattle.tlb.specs.Entries.{pageSizeOf, pairSizeOf, translated, halfAnswer, entryAnswer};
 ghost use Rattle.tlb.specs.Table.{matching};
 ghost use Rattle.tlb.specs.Lookup.{lookupAnswer, lookupTable};
 ghost use Rattle.tlb.specs.Micro.{lowest, hasMatchOf, slotHits, probedOf, filledOf};
 ghost use Rattle.tlb.specs.Moves.{pageOf};
-ghost use Rattle.rimjhodek.specs.Table.{entryIn, entriesIn, tableIn, putMicro, onlyOf, keyOf, keyHits, wordHits, turned, failed, lookedOf};
+ghost use Rattle.rimjhodek.specs.Table.{entryIn, entriesIn, tableIn, putMicro, onlyOf, keyOf, keyHits, hitsAt, turned, failed, lookedOf};
 use tlb::Tlb;
 
 // Where an address leads. `error` is 0 where there is an address, else 1 for Refill, 2 for Invalid, 3 for Modified and, of a
@@ -106,48 +106,49 @@ pub(crate) fn look(vaddr: u64, asid: u8, store: bool, tlb: &mut [u64; 132]) -> L
         return failed(1);
     }
     let only = scan(tlb, vaddr, asid);
-    if only < 32 {
+    if only < 128 {
         return answer(tlb, only, vaddr, store);
     }
-    if only == 32 {
+    if only == 128 {
         return failed(1);
     }
     tlb[131] = bits::with_field(tlb[131], 0, 0, 1);
     failed(1)
 }
 
-// The number of the one entry that matches, 32 where there is none, and 64 where there are more. Eight are asked a turn, since to
-// turn costs half as much as to ask one.
+// Where the one entry that matches begins: four words to its number. 128 where there is none, and 256 where there are more. Places
+// are held and no numbers, so that no second count goes along. Eight entries are asked a turn, since to turn costs half as much as
+// to ask one.
 fn scan(tlb: &[u64; 132], vaddr: u64, asid: u8) -> usize
-    ensures { λ r. ⌜ r ≡ onlyOf (matching (entriesIn (now (tlb .entry))) vaddr asid 0) ⌝ }
+    ensures { λ r. ⌜ r ≡ 4 * onlyOf (matching (entriesIn (now (tlb .entry))) vaddr asid 0) ⌝ }
 {
     let key = key_of(vaddr, asid);
-    let mut found: usize = 32;
-    let mut i: usize = 0;
-    while i < 32 {
-        found = turn(tlb, i, key, found);
-        found = turn(tlb, i + 1, key, found);
-        found = turn(tlb, i + 2, key, found);
-        found = turn(tlb, i + 3, key, found);
-        found = turn(tlb, i + 4, key, found);
-        found = turn(tlb, i + 5, key, found);
-        found = turn(tlb, i + 6, key, found);
-        found = turn(tlb, i + 7, key, found);
-        i += 8;
+    let mut found: usize = 128;
+    let mut at: usize = 0;
+    while at < 128 {
+        found = turn(tlb, at, key, found);
+        found = turn(tlb, at + 4, key, found);
+        found = turn(tlb, at + 8, key, found);
+        found = turn(tlb, at + 12, key, found);
+        found = turn(tlb, at + 16, key, found);
+        found = turn(tlb, at + 20, key, found);
+        found = turn(tlb, at + 24, key, found);
+        found = turn(tlb, at + 28, key, found);
+        at += 32;
     }
     found
 }
 
-// What is found with entry `i` asked too.
-fn turn(tlb: &[u64; 132], i: usize, key: u64, found: usize) -> usize
-    requires { ⌜ i < 32 ⌝ }
-    ensures { λ r. ⌜ r ≡ turned (wordHits (now (tlb .entry)) i key) i found ⌝ }
+// What is found with the entry at word `at` asked too.
+fn turn(tlb: &[u64; 132], at: usize, key: u64, found: usize) -> usize
+    requires { ⌜ at < 128 ⌝ }
+    ensures { λ r. ⌜ r ≡ turned (hitsAt (now (tlb .entry)) at key) at found ⌝ }
 {
-    if entry_hits(tlb, i, key) {
-        if found == 32 {
-            return i;
+    if entry_hits(tlb, at, key) {
+        if found == 128 {
+            return at;
         }
-        return 64;
+        return 256;
     }
     found
 }
@@ -159,7 +160,7 @@ pub(crate) fn lowest(tlb: &[u64; 132], vaddr: u64, asid: u8) -> usize
     let key = key_of(vaddr, asid);
     let mut i: usize = 0;
     while i < 32 {
-        if entry_hits(tlb, i, key) {
+        if entry_hits(tlb, 4 * i, key) {
             return i;
         }
         i += 1;
@@ -173,17 +174,16 @@ fn slot_hits(tlb: &[u64; 132], slot: u64, vaddr: u64, asid: u8) -> bool
 {
     let i = (slot % 256) as usize;
     if i < 32 {
-        return entry_hits(tlb, i, key_of(vaddr, asid));
+        return entry_hits(tlb, 4 * i, key_of(vaddr, asid));
     }
     false
 }
 
-// Does entry `i` match?
-fn entry_hits(tlb: &[u64; 132], i: usize, key: u64) -> bool
-    requires { ⌜ i < 32 ⌝ }
-    ensures { λ r. ⌜ r ≡ wordHits (now (tlb .entry)) i key ⌝ }
+// Does the entry at word `at` match?
+fn entry_hits(tlb: &[u64; 132], at: usize, key: u64) -> bool
+    requires { ⌜ at < 128 ⌝ }
+    ensures { λ r. ⌜ r ≡ hitsAt (now (tlb .entry)) at key ⌝ }
 {
-    let at = 4 * i;
     hits(tlb[at], tlb[at + 1], tlb[at + 2], key)
 }
 
@@ -209,13 +209,12 @@ fn key_of(vaddr: u64, asid: u8) -> u64
     vaddr / 256 * 256 + asid as u64
 }
 
-// What the one entry that matches answers: by the half that the bit above the offset within a page selects.
-fn answer(tlb: &[u64; 132], i: usize, vaddr: u64, store: bool) -> Looked
-    requires { ⌜ i < 32 ⌝ }
-    ensures { λ r. ⌜ r ≡ lookedOf (entryAnswer i (entryIn (now (tlb .entry)) i) vaddr store) ⌝ }
+// What the one entry that matches, at word `at`, answers: by the half that the bit above the offset within a page selects.
+fn answer(tlb: &[u64; 132], at: usize, vaddr: u64, store: bool) -> Looked
+    requires { ⌜ (at < 128) × (at % 4 ≡ 0) ⌝ }
+    ensures { λ r. ⌜ r ≡ lookedOf (entryAnswer (at / 4) (entryIn (now (tlb .entry)) (at / 4)) vaddr store) ⌝ }
 {
-    let at = 4 * i;
-    let entry = i as u8;
+    let entry = (at / 4) as u8;
     let size = Tlb::page_size(bits::low32(tlb[at]));
     if vaddr & size == 0 {
         return half(entry, tlb[at + 2], size - 1, vaddr, store);

@@ -5,7 +5,7 @@ ghost use Rattle.addr.specs.Segments.{segmentOf};
 ghost use Rattle.addr.specs.Translate.{translateAnswer, translateTable};
 ghost use Rattle.rimjhodek.specs.Modes.{accessIn};
 ghost use Rattle.rimjhodek.specs.Table.{tableIn, putMicro};
-ghost use Rattle.rimjhodek.specs.Translation.{translatedOf, viaAnswer, viaTable, isUseg, isKseg, direct, unmapped, ksegAnswer};
+ghost use Rattle.rimjhodek.specs.Translation.{translatedOf, viaAnswer, viaTable, isUseg, isKseg0, isKseg1, direct, unmapped};
 use crate::modes::By;
 use crate::modes::access_in;
 use crate::modes::is_cached;
@@ -17,7 +17,8 @@ use crate::table::failed;
 use crate::table::look;
 use addr::Segment;
 
-// Where an address leads by an access. KSEG0 and KSEG1, where most accesses go, are asked before the other segments.
+// Where an address leads by an access. The kernel's KSEG0 and KSEG1, where most accesses go, are asked before the other segments;
+// they are the kernel's whatever the width, with ERL or without.
 #[no_mangle]
 pub extern "C" fn rimjhodek_translate_via(
     tlb: &mut [u64; 132],
@@ -29,8 +30,11 @@ pub extern "C" fn rimjhodek_translate_via(
     ensures { λ r. ⌜ (r ≡ viaAnswer (tableIn (now (tlb .entry))) vaddr asid store access)
         × (now (tlb .exit) ≡ putMicro (now (tlb .entry)) (viaTable (tableIn (now (tlb .entry))) vaddr asid access)) ⌝ }
 {
-    if is_kseg(vaddr) {
-        return in_kseg(access.mode, vaddr);
+    if access.mode == 0 && is_kseg0(vaddr) {
+        return unmapped(vaddr, false);
+    }
+    if access.mode == 0 && is_kseg1(vaddr) {
+        return unmapped(vaddr, true);
     }
     if is_mode(access.mode) {
         return translate(tlb, vaddr, asid, store, access);
@@ -70,32 +74,26 @@ fn is_useg(erl: bool, vaddr: u64) -> bool
     vaddr <= 0x7FFF_FFFF
 }
 
-// Does an address lie in KSEG0 or KSEG1, which adjoin (5.2.4)?
-fn is_kseg(vaddr: u64) -> bool
-    ensures { λ r. ⌜ r ≡ isKseg vaddr ⌝ }
+// Does an address lie in KSEG0, which is cached (5.2.4)?
+fn is_kseg0(vaddr: u64) -> bool
+    ensures { λ r. ⌜ r ≡ isKseg0 vaddr ⌝ }
 {
-    0xFFFF_FFFF_8000_0000 <= vaddr && vaddr <= 0xFFFF_FFFF_BFFF_FFFF
+    0xFFFF_FFFF_8000_0000 <= vaddr && vaddr <= 0xFFFF_FFFF_9FFF_FFFF
 }
 
-// Where an address of KSEG0 or KSEG1 leads: they are the kernel's, whatever the width, with ERL or without.
-fn in_kseg(mode: u8, vaddr: u64) -> Looked
-    ensures { λ r. ⌜ r ≡ ksegAnswer mode vaddr ⌝ }
+// Does an address lie in KSEG1, which is not?
+fn is_kseg1(vaddr: u64) -> bool
+    ensures { λ r. ⌜ r ≡ isKseg1 vaddr ⌝ }
 {
-    if mode == 0 {
-        return unmapped(vaddr);
-    }
-    if !is_mode(mode) {
-        return failed(UNKNOWN);
-    }
-    failed(4)
+    0xFFFF_FFFF_A000_0000 <= vaddr && vaddr <= 0xFFFF_FFFF_BFFF_FFFF
 }
 
-// Bits 28..0, where bit 29 tells KSEG1 from KSEG0.
-fn unmapped(vaddr: u64) -> Looked
-    ensures { λ r. ⌜ r ≡ unmapped vaddr ⌝ }
+// Where an address of either leads: to its bits 28..0.
+fn unmapped(vaddr: u64, uncached: bool) -> Looked
+    ensures { λ r. ⌜ r ≡ unmapped vaddr uncached ⌝ }
 {
     let addr = bits::field(vaddr, 28, 0) as u32;
-    direct(addr, bits::field(vaddr, 29, 29) == 1)
+    direct(addr, uncached)
 }
 
 // An address that no entry gave.

@@ -84,7 +84,11 @@ impl PageEntry {
     {
         let addr = bits::low32(bits::merge(offset, vaddr, self.pfn as u64 * 4096));
         let uncached = self.uncached();
-        LookupAnswer::Found(Translated { addr, uncached, entry })
+        LookupAnswer::Found(Translated {
+            addr,
+            uncached,
+            entry,
+        })
     }
 }
 

@@ -1,4 +1,6 @@
 -- The selected half answers.
+use mathlib.Core.Path.{_≡_}
+use Prim.Native.Nat.{_*_, _/_}
 use native.Mathlib.Omega.{arith}
 use borrow.Author.Tests.{eq-eqb, ne-eqb}
 use Rattle.tlb.specs.Entries.{halfOf, entryAnswer}
@@ -7,9 +9,6 @@ use Rattle.rimjhodek.specs.Table.{entryIn}
 use borrow.Author.Needs.{needs}
 use Rattle.rimjhodek.proofs.table.answer.Statement.{statement}
 use Rattle.rimjhodek.proofs.table.answer.Tie as tie
-
-mul-at : tie.Need-mul-at
-mul-at c = search needs
 
 cast-entry : tie.Need-cast-entry
 cast-entry c = search needs
@@ -45,7 +44,9 @@ returns : tie.Need-returns
 unfolding entryAnswer halfOf entryIn
 returns c =
     let s = c .before .before .before in
-    rw (← s .before .low32 .ensures, ← s .page-size .ensures, eq-eqb _ _ (c .before .before .if1 .taken)) (c .half .ensures)
+    let at = s .before .before .before .args .at in
+    let whole : 4 * (at / 4) ≡ at = omega (arith, s .before .before .before .pre .1) in
+    rw (whole, ← s .before .low32 .ensures, ← s .page-size .ensures, eq-eqb _ _ (c .before .before .if1 .taken)) (c .half .ensures)
 
 add-half-2 : tie.Need-add-half-2
 add-half-2 c = search needs
@@ -66,13 +67,14 @@ returns-2 : tie.Need-returns-2
 unfolding entryAnswer halfOf entryIn
 returns-2 c =
     let s = c .before .before .before in
-    rw (← s .before .low32 .ensures, ← s .page-size .ensures, ne-eqb _ _ (c .before .before .if1 .left)) (c .half2 .ensures)
+    let at = s .before .before .before .args .at in
+    let whole : 4 * (at / 4) ≡ at = omega (arith, s .before .before .before .pre .1) in
+    rw (whole, ← s .before .low32 .ensures, ← s .page-size .ensures, ne-eqb _ _ (c .before .before .if1 .left)) (c .half2 .ensures)
 
 pub answer-spec : {M : Type 1} → statement M
 answer-spec =
     tie.close
     (tie.spec
-    mul-at
     cast-entry
     mul-low32
     element-copy-out-low32

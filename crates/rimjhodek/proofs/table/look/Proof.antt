@@ -1,5 +1,7 @@
 -- By what the scan found.
 use mathlib.Core.Path.{_∙_}
+use Prim.Native.Nat.{_/_}
+use native.Mathlib.Omega.{arith}
 use Rattle.rimjhodek.proofs.Looking.{when-shut, when-one, when-none, when-more}
 use borrow.Author.Needs.{needs}
 use Rattle.rimjhodek.proofs.table.look.Statement.{statement}
@@ -21,13 +23,13 @@ scan-requires : tie.Need-scan-requires
 scan-requires c κs = search needs
 
 answer-requires : tie.Need-answer-requires
-answer-requires c κs = search needs
+answer-requires c κs = (c .before .if2 .taken, omega (arith, c .before .before .scan .ensures))
 
 returns-2 : tie.Need-returns-2
 returns-2 c =
     let s = c .before .before .before in
     let a = s .before .before .before .before .args in
-    let w = when-one (a .tlb .now) (a .vaddr) (a .asid) (a .store) (s .before .before .if1 .left) _ (s .scan .ensures) (c .before .before .if2 .taken) in
+    let w = when-one (a .tlb .now) (a .vaddr) (a .asid) (a .store) (s .before .before .if1 .left) (s .scan .result / 4) (omega (arith, s .scan .ensures)) (omega (arith, c .before .before .if2 .taken)) in
     (c .answer .ensures ∙ w .0, w .1)
 
 failed-requires-2 : tie.Need-failed-requires-2
@@ -37,7 +39,7 @@ returns-3 : tie.Need-returns-3
 returns-3 c =
     let s = c .before .before .before in
     let a = s .before .before .before .before .args in
-    let w = when-none (a .tlb .now) (a .vaddr) (a .asid) (a .store) (s .before .before .if1 .left) _ (s .scan .ensures) (c .before .if3 .taken) in
+    let w = when-none (a .tlb .now) (a .vaddr) (a .asid) (a .store) (s .before .before .if1 .left) (s .scan .result / 4) (omega (arith, s .scan .ensures)) (omega (arith, c .before .if3 .taken)) in
     (c .failed2 .ensures ∙ w .0, w .1)
 
 element-copy-out-with-field : tie.Need-element-copy-out-with-field
@@ -57,7 +59,8 @@ returns-4 c =
     let i = c .before .before .before in
     let s = i .before .before in
     let a = s .before .before .before .before .args in
-    let w = when-more (a .tlb .now) (a .vaddr) (a .asid) (a .store) (s .before .before .if1 .left) _ (s .scan .ensures) (i .before .if2 .left) (i .if3 .left) in
+    let w = when-more (a .tlb .now) (a .vaddr) (a .asid) (a .store) (s .before .before .if1 .left) (s .scan .result / 4) (omega (arith, s .scan .ensures)) (omega (arith, i .before .if2 .left))
+    (λ z. i .if3 .left (omega (arith, z, s .scan .ensures))) in
     (c .failed3 .ensures ∙ w .0, rw (c .before .with-field .ensures) (w .1))
 
 pub look-spec : {M : Type 1} → statement M

@@ -18,6 +18,9 @@ key-of-requires c κs = search needs
 loop-holds : tie.Need-loop-holds Inv-loop μ-loop
 loop-holds c = search needs
 
+mul-entry-hits : tie.Need-mul-entry-hits Inv-loop μ-loop
+mul-entry-hits c = search needs
+
 entry-hits-requires : tie.Need-entry-hits-requires Inv-loop μ-loop
 entry-hits-requires c κs = search needs
 
@@ -58,6 +61,7 @@ lowest-spec =
     μ-loop
     key-of-requires
     loop-holds
+    mul-entry-hits
     entry-hits-requires
     returns
     add-i

@@ -1,6 +1,6 @@
 -- Eight entries to a turn; what is held is what the entries before give.
 use mathlib.Core.Path.{_≡_}
-use Prim.Native.Nat.{_≤_, _+_, _-_, _%_}
+use Prim.Native.Nat.{_≤_, _+_, _-_, _/_, _%_}
 use native.Mathlib.Omega.{arith}
 use borrow.Author.Needs.{needs}
 use Rattle.rimjhodek.proofs.Scanning.{Held, begin, step, finish}
@@ -8,10 +8,10 @@ use Rattle.rimjhodek.proofs.table.scan.Statement.{statement}
 use Rattle.rimjhodek.proofs.table.scan.Tie as tie
 
 abbrev Inv-loop : tie.InvT-loop
-Inv-loop tlb vaddr asid key found₀ i₀ found i = (i ≤ 32) × (i % 8 ≡ 0) × Held tlb vaddr asid i found
+Inv-loop tlb vaddr asid key found₀ at₀ found at = (at ≤ 128) × (at % 32 ≡ 0) × Held tlb vaddr asid (at / 4) found
 
 abbrev μ-loop : tie.MeasureT-loop
-μ-loop tlb vaddr asid key found₀ i₀ found i = 32 - i
+μ-loop tlb vaddr asid key found₀ at₀ found at = 128 - at
 
 key-of-requires : tie.Need-key-of-requires Inv-loop μ-loop
 key-of-requires c κs = search needs
@@ -66,8 +66,8 @@ add-turn-7 c = search needs
 turn-requires-8 : tie.Need-turn-requires-8 Inv-loop μ-loop
 turn-requires-8 c κs = search needs
 
-add-i : tie.Need-add-i Inv-loop μ-loop
-add-i c = search needs
+add-at : tie.Need-add-at Inv-loop μ-loop
+add-at c = search needs
 
 loop-less : tie.Need-loop-less Inv-loop μ-loop
 loop-less c = search needs
@@ -79,24 +79,25 @@ loop-again c =
     let l = t₁ .before .before in
     let a = l .before .before .args in
     let k = l .before .key-of .ensures in
-    let i = l .loop .i in
+    let at = l .loop .at in
+    let i = at / 4 in
     let below = t₁ .before .loop-test .taken in
-    let z : i % 8 ≡ 0 = l .loop .inv .1 in
+    let z : at % 32 ≡ 0 = l .loop .inv .1 in
     let one = step (a .tlb .now) (a .vaddr) (a .asid) (search needs) _ k in
-    let h₁ = one i (i + 1) _ _ below (omega arith) (t₁ .turn .ensures) (l .loop .inv .2) in
-    let h₂ = one (i + 1) (i + 2) _ _ (omega arith) (omega arith) (t₄ .before .before .turn2 .ensures) h₁ in
-    let h₃ = one (i + 2) (i + 3) _ _ (omega arith) (omega arith) (t₄ .before .turn3 .ensures) h₂ in
-    let h₄ = one (i + 3) (i + 4) _ _ (omega arith) (omega arith) (t₄ .turn4 .ensures) h₃ in
-    let h₅ = one (i + 4) (i + 5) _ _ (omega arith) (omega arith) (c .before .before .before .turn5 .ensures) h₄ in
-    let h₆ = one (i + 5) (i + 6) _ _ (omega arith) (omega arith) (c .before .before .turn6 .ensures) h₅ in
-    let h₇ = one (i + 6) (i + 7) _ _ (omega arith) (omega arith) (c .before .turn7 .ensures) h₆ in
-    (omega arith, omega arith, one (i + 7) (i + 8) _ _ (omega arith) (omega arith) (c .turn8 .ensures) h₇)
+    let h₁ = one i (i + 1) at _ _ (omega arith) (omega arith) (omega arith) (t₁ .turn .ensures) (l .loop .inv .2) in
+    let h₂ = one (i + 1) (i + 2) _ _ _ (omega arith) (omega arith) (omega arith) (t₄ .before .before .turn2 .ensures) h₁ in
+    let h₃ = one (i + 2) (i + 3) _ _ _ (omega arith) (omega arith) (omega arith) (t₄ .before .turn3 .ensures) h₂ in
+    let h₄ = one (i + 3) (i + 4) _ _ _ (omega arith) (omega arith) (omega arith) (t₄ .turn4 .ensures) h₃ in
+    let h₅ = one (i + 4) (i + 5) _ _ _ (omega arith) (omega arith) (omega arith) (c .before .before .before .turn5 .ensures) h₄ in
+    let h₆ = one (i + 5) (i + 6) _ _ _ (omega arith) (omega arith) (omega arith) (c .before .before .turn6 .ensures) h₅ in
+    let h₇ = one (i + 6) (i + 7) _ _ _ (omega arith) (omega arith) (omega arith) (c .before .turn7 .ensures) h₆ in
+    (omega arith, omega arith, one (i + 7) ((at + 32) / 4) _ _ _ (omega arith) (omega arith) (omega arith) (c .turn8 .ensures) h₇)
 
 returns : tie.Need-returns Inv-loop μ-loop
 returns c =
     let l = c .before in
     let a = l .before .before .args in
-    finish (a .tlb .now) (a .vaddr) (a .asid) (l .loop .i) (l .loop .found) (c .loop-test .left) (l .loop .inv .2)
+    finish (a .tlb .now) (a .vaddr) (a .asid) (l .loop .at / 4) (l .loop .found) (omega (arith, c .loop-test .left)) (l .loop .inv .2)
 
 pub scan-spec : {M : Type 1} → statement M
 scan-spec =
@@ -121,7 +122,7 @@ scan-spec =
     turn-requires-7
     add-turn-7
     turn-requires-8
-    add-i
+    add-at
     loop-less
     loop-again
     returns)

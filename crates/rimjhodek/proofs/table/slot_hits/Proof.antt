@@ -7,6 +7,9 @@ use borrow.Author.Needs.{needs}
 use Rattle.rimjhodek.proofs.table.slot_hits.Statement.{statement}
 use Rattle.rimjhodek.proofs.table.slot_hits.Tie as tie
 
+mul-entry-hits : tie.Need-mul-entry-hits
+mul-entry-hits c = search needs
+
 key-of-requires : tie.Need-key-of-requires
 key-of-requires c κs = search needs
 
@@ -27,6 +30,7 @@ pub slot-hits-spec : {M : Type 1} → statement M
 slot-hits-spec =
     tie.close
     (tie.spec
+    mul-entry-hits
     key-of-requires
     entry-hits-requires
     returns

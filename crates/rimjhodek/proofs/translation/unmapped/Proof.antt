@@ -9,14 +9,11 @@ field-requires c κs = search needs
 cast-addr : tie.Need-cast-addr
 cast-addr c = search needs
 
-field-requires-2 : tie.Need-field-requires-2
-field-requires-2 c κs = search needs
-
 direct-requires : tie.Need-direct-requires
 direct-requires c κs = search needs
 
 returns : tie.Need-returns
-returns c = rw (← c .before .before .field .ensures, ← c .before .field2 .ensures) (c .direct .ensures)
+returns c = rw (← c .before .field .ensures) (c .direct .ensures)
 
 pub unmapped-spec : {M : Type 1} → statement M
-unmapped-spec = tie.close (tie.spec field-requires cast-addr field-requires-2 direct-requires returns)
+unmapped-spec = tie.close (tie.spec field-requires cast-addr direct-requires returns)
