@@ -149,14 +149,13 @@ enum {
     RIMJHODEK_FAULT_ADDRESS = 4 /* of rimjhodek_translate_via alone */
 };
 
-/* No entry has this number. */
+/* No entry has this number: an address in a direct segment. */
 #define RIMJHODEK_NO_ENTRY 32
 
 typedef struct RimjhodekLooked {
     uint8_t error; /* 0, or why */
     bool uncached;
-    uint8_t entry; /* the number of the entry that gave the address: the only one that matches; RIMJHODEK_NO_ENTRY in a
-                      direct segment, and where there is an error */
+    uint8_t entry; /* the number of the entry that gave the address, the only one that matches; or RIMJHODEK_NO_ENTRY */
     uint32_t addr;
 } RimjhodekLooked;
 

@@ -152,7 +152,7 @@ static void translation(void) {
     IS(even.addr, 0xABCDE678);
     IS(rimjhodek_lookup(tlb, 0x13678, 7, true).error, RIMJHODEK_FAULT_MODIFIED);
     IS(rimjhodek_lookup(tlb, 0x12678, 8, true).error, RIMJHODEK_FAULT_REFILL);
-    IS(rimjhodek_lookup(tlb, 0x12678, 8, true).entry, RIMJHODEK_NO_ENTRY);
+    IS(rimjhodek_lookup(tlb, 0x12678, 8, true).entry, 0);
     IS(rimjhodek_jtlb_has_match(tlb, 0x12678, 7), 1);
     IS(rimjhodek_page_size(0), 0x1000);
     IS(rimjhodek_pair_size(0x6000), 0x8000);

@@ -172,7 +172,7 @@ fn looked_comes_out() {
     let odd = Looked { error: 0, uncached: false, entry: 5, addr: 0x1234_5678 };
     assert_eq!(look(0x1_2678, true), even);
     assert_eq!(look(0x1_3678, false), odd);
-    let fault = |error| Looked { error, uncached: false, entry: 32, addr: 0 };
+    let fault = |error| Looked { error, uncached: false, entry: 0, addr: 0 };
     assert_eq!(look(0x4_0000, false), fault(1));
     assert_eq!(look(0x1_3678, true), fault(3));
     let user = By { mode: 2, wide: false, erl: false };

@@ -277,7 +277,7 @@ fn refusal_255_of_a_mode() {
             let reached = ffi::rimjhodek_segment(0x1_2000, by);
             assert_eq!(reached, Reached { refused: 255, kind: 0, cached: false, addr: 0 });
             let looked = ffi::rimjhodek_translate_via(&mut tlb.words, 0x1_2000, 0, false, by);
-            assert_eq!(looked, Looked { error: 255, uncached: false, entry: 32, addr: 0 });
+            assert_eq!(looked, Looked { error: 255, uncached: false, entry: 0, addr: 0 });
             assert_eq!(tlb, before);
         }
     }

@@ -1,5 +1,5 @@
--- Which entry answered, of the exports by their contracts: `entry` is the number of the only entry that matches, or 32 where the
--- address is reached directly or not at all. Without it the answer is what it was before there was a number.
+-- Which entry answered, of the exports by their contracts: `entry` is the number of the only entry that matches, 32 where the
+-- address is reached directly, and 0 where it is not reached. Without it the answer is what it was before there was a number.
 use mathlib.Core.Path.{_≡_, refl, sym, ap, _∙_, subst}
 use mathlib.Core.Bool.{Bool, true, false, cond}
 use Prim.Native.Nat.{ℕ}
@@ -38,13 +38,13 @@ use Rattle.rimjhodek.proofs.translation.rimjhodek_translate_via.Reads a
 -- an answer of a lookup
 pub record ByEntry (t : Tlb) (v asid : ℕ) (r : Looked) : Type 0 where
   pub found : r .error ≡ 0 → Only t v asid (r .entry)
-  pub lost : (r .error ≡ 0 → ⊥) → r .entry ≡ 32
+  pub lost : (r .error ≡ 0 → ⊥) → r .entry ≡ 0
 
 -- and of a translation, in segment g
 pub record BySegment (t : Tlb) (v asid : ℕ) (g : Segment) (r : Looked) : Type 0 where
   pub mapped : g ≡ Mapped → r .error ≡ 0 → Only t v asid (r .entry)
-  pub direct : (p : ℕ) (c : Cached) → g ≡ Direct p c → r .entry ≡ 32
-  pub lost : (r .error ≡ 0 → ⊥) → r .entry ≡ 32
+  pub direct : (p : ℕ) (c : Cached) → g ≡ Direct p c → r .error ≡ 0 → r .entry ≡ 32
+  pub lost : (r .error ≡ 0 → ⊥) → r .entry ≡ 0
 
 module _ (t : Tlb) (long : length (t .entries) ≡ 32) (v asid : ℕ) (store : Bool) where
   looked-by : (l : LookupAnswer) → lookupAnswer t v asid store ≡ l → ByEntry t v asid (lookedOf l)
@@ -58,13 +58,13 @@ module _ (t : Tlb) (long : length (t .entries) ≡ 32) (v asid : ℕ) (store : B
     translated-by true (At p) e =
         record {
           mapped = λ m z. mapped-only t v asid store a p e m long;
-          direct = direct-has-32 t v asid store a p e;
+          direct = λ q c d z. direct-has-32 t v asid store a p e q c d;
           lost = λ n. absurd (n refl);
         }
     translated-by true (Failed f) e =
-        record { mapped = λ m z. absurd (omega (arith, z)); direct = λ p c d. refl; lost = λ n. refl }
+        record { mapped = λ m z. absurd (omega (arith, z)); direct = λ q c d z. absurd (omega (arith, z)); lost = λ n. refl }
     translated-by false x e =
-        record { mapped = λ m z. absurd (omega (arith, z)); direct = λ p c d. refl; lost = λ n. refl }
+        record { mapped = λ m z. absurd (omega (arith, z)); direct = λ q c d z. absurd (omega (arith, z)); lost = λ n. refl }
 
 module _ (κs : Lifetimes.Lfts 1) (a : World.ArgsD lookup.signature κs) (r : Looked) (s : _) (p : lookup-reads.Post κs a r s) where
   abbrev t : Tlb

@@ -118,9 +118,9 @@ indexFor ws hi =
     let i : ℕ = lowest (tableIn ws) hi (fieldOf hi 7 0) in
     cond (ltb i 32) i 0x8000_0000
 
--- no address and no entry, by the number of the error
+-- no address, by the number of the error
 abbrev pub failed : ℕ → Looked
-failed n = record { error = n; uncached = false; entry = 32; addr = 0 }
+failed n = record { error = n; uncached = false; entry = 0; addr = 0 }
 
 -- error 0 is none; a fault is its number and 1
 abbrev pub lookedOf : LookupAnswer → Looked

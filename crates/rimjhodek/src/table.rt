@@ -16,13 +16,10 @@ use tlb::Tlb;
 pub struct Looked {
     pub error: u8,
     pub uncached: bool,
-    // The number of the entry that gave the address, or `NO_ENTRY`.
+    // The number of the entry that gave the address, or 32 in a direct segment.
     pub entry: u8,
     pub addr: u32,
 }
-
-// Of a direct segment, and where there is no address.
-pub(crate) const NO_ENTRY: u8 = 32;
 
 #[no_mangle]
 pub extern "C" fn rimjhodek_page_size(mask: u32) -> u64
@@ -256,7 +253,7 @@ pub(crate) fn failed(error: u8) -> Looked
     Looked {
         error,
         uncached: false,
-        entry: NO_ENTRY,
+        entry: 0,
         addr: 0,
     }
 }

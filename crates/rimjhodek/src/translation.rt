@@ -12,7 +12,6 @@ use crate::modes::is_cached;
 use crate::modes::is_mode;
 use crate::refusals::UNKNOWN;
 use crate::table::Looked;
-use crate::table::NO_ENTRY;
 use crate::table::failed;
 use crate::table::look;
 use addr::Segment;
@@ -103,7 +102,7 @@ fn direct(addr: u32, uncached: bool) -> Looked
     Looked {
         error: 0,
         uncached,
-        entry: NO_ENTRY,
+        entry: 32,
         addr,
     }
 }
