@@ -1,4 +1,4 @@
--- Every row of the table holds, by computation: a theorem for each of the scope's numbers.
+-- Every row of the tables holds, by computation: a theorem for each of the scope's numbers, and for each request that gives some.
 use mathlib.Core.Path.{_≡_, refl}
 use mathlib.Core.Bool.{true}
 use Rattle.bits.specs.Field.{withFieldOf}
@@ -12,7 +12,10 @@ use Rattle.cop0.specs.File.{readAt, besides, writeAt, setHardwareOf}
 use Rattle.cop0.specs.Access.{moved32, dmtc0Of}
 use Rattle.cop0.specs.Advance.{moved, advanceTold, advanceOf}
 use Rattle.addr.specs.Segments.{inside, segmentOf}
-use Rattle.tlb.specs.Entries.{pageSizeOf}
+use Rattle.addr.specs.Translate.{translateAnswer}
+use Rattle.tlb.specs.Entries.{pageSizeOf, matchesOf, halfOf, halfAnswer, entryAnswer}
+use Rattle.tlb.specs.Table.{freshFrom, matching}
+use Rattle.tlb.specs.Lookup.{lookupAnswer}
 use Rattle.tlb.specs.Moves.{pairs}
 use Rattle.exception.specs.Epilogue.{recorded, addressed, handling}
 use Rattle.exception.specs.Taking.{takenOf, dispatchOf}
@@ -21,6 +24,7 @@ use Rattle.cache.specs.Both.{loadTold, residentTold, storeTags}
 use Rattle.numbers.specs.Table.{all}
 use Rattle.numbers.specs.Translation.{p1, p2, p3}
 use Rattle.numbers.specs.Segments.{p4, p5, p6}
+use Rattle.numbers.specs.Entries.{q1}
 use Rattle.numbers.specs.Exceptions.{p7, p8}
 use Rattle.numbers.specs.RegisterFile.{p9, p10, p11}
 use Rattle.numbers.specs.Caches.{p12}
@@ -72,3 +76,7 @@ p11-holds = refl
 pub p12-holds : all p12 ≡ true
 unfolding tagLoOf storedOf loadTold residentTold storeTags withFieldOf
 p12-holds = refl
+
+pub q1-holds : all q1 ≡ true
+unfolding freshFrom matching matchesOf mergedBits pageSizeOf halfOf halfAnswer entryAnswer lookupAnswer segmentOf inside translateAnswer
+q1-holds = refl

@@ -2,5 +2,6 @@ pub mod Table
 pub mod RegisterFile
 pub mod Translation
 pub mod Segments
+pub mod Entries
 pub mod Exceptions
 pub mod Caches

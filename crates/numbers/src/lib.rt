@@ -1,2 +1,3 @@
-// The numbers that the scope (document 01) holds the definitions to: a table in specs/, and the proof that it holds.
+// The numbers that the scope (document 01) and the requests (document 02) hold the definitions to: tables in specs/, and the proof
+// that they hold.
 // No function: whatever answers these numbers is in the crates below.
