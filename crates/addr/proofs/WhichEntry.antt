@@ -96,5 +96,13 @@ module _ (b : Tlb × (ℕ × (ℕ × (Bool × (Access × Unit {0}))))) (r : Tran
   pub call-former : unnumbered (toldTranslate (r .answer)) ≡ formerTranslate (b .0) (b .1 .0) (b .1 .1 .0) (b .1 .1 .1 .0) (b .1 .1 .1 .1 .0)
   call-former = ap unnumbered (p .0) ∙ translate-former (b .0) (b .1 .0) (b .1 .1 .0) (b .1 .1 .1 .0) (b .1 .1 .1 .1 .0)
 
-  pub call-is : (x : Physical) → r .answer ≡ At x → translateAnswer (b .0) (b .1 .0) (b .1 .1 .0) (b .1 .1 .1 .0) (b .1 .1 .1 .1 .0) ≡ At x
-  call-is x e = sym (translate-one (r .answer) _ (p .0)) ∙ e
+  module _ (x : Physical) (e : r .answer ≡ At x) where
+    answer-is : translateAnswer (b .0) (b .1 .0) (b .1 .1 .0) (b .1 .1 .1 .0) (b .1 .1 .1 .1 .0) ≡ At x
+    answer-is = sym (translate-one (r .answer) _ (p .0)) ∙ e
+
+    pub call-direct : (q : ℕ) (c : Cached) → segmentOf (b .1 .1 .1 .1 .0) (b .1 .0) ≡ Direct q c → x .entry ≡ 32
+    call-direct = direct-has-32 (b .0) (b .1 .0) (b .1 .1 .0) (b .1 .1 .1 .0) (b .1 .1 .1 .1 .0) x answer-is
+
+    pub call-mapped : segmentOf (b .1 .1 .1 .1 .0) (b .1 .0) ≡ Mapped → length (b .0 .entries) ≡ 32
+        → Only (b .0) (b .1 .0) (b .1 .1 .0) (x .entry)
+    call-mapped = mapped-only (b .0) (b .1 .0) (b .1 .1 .0) (b .1 .1 .1 .0) (b .1 .1 .1 .1 .0) x answer-is

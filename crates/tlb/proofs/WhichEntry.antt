@@ -81,6 +81,7 @@ pub record Only (t : Tlb) (v asid i : ℕ) : Type 0 where
   pub hits : matchesOf (entryAt t i) v asid ≡ true
   pub alone : (n : ℕ) → n < 32 → matchesOf (entryAt t n) v asid ≡ true → n ≡ i
 
+-- of a table of 32 entries, as every one that the type holds is
 module _ (t : Tlb) (long : length (t .entries) ≡ 32) (v asid : ℕ) (store : Bool) (x : Translated) where
   pub found-only : lookupAnswer t v asid store ≡ Found x → Only t v asid (x .entry)
   unfolding lookupAnswer
