@@ -29,11 +29,13 @@ pub extern "C" fn rimjhodek_translate_via(
     ensures { λ r. ⌜ (r ≡ viaAnswer (tableIn (now (tlb .entry))) vaddr asid store access)
         × (now (tlb .exit) ≡ putMicro (now (tlb .entry)) (viaTable (tableIn (now (tlb .entry))) vaddr asid access)) ⌝ }
 {
-    if access.mode == 0 && is_kseg0(vaddr) {
-        return unmapped(vaddr, false);
-    }
-    if access.mode == 0 && is_kseg1(vaddr) {
-        return unmapped(vaddr, true);
+    if access.mode == 0 {
+        if is_kseg0(vaddr) {
+            return unmapped(vaddr, false);
+        }
+        if is_kseg1(vaddr) {
+            return unmapped(vaddr, true);
+        }
     }
     if is_mode(access.mode) {
         return translate(tlb, vaddr, asid, store, access);

@@ -29,8 +29,9 @@ unmapped-requires-2 c κs = search needs
 returns-2 : tie.Need-returns-2
 returns-2 c =
     let k = c .before .before in
-    let a = k .before .before .before .before .before .args in
-    let w = in-kseg1 (a .tlb .now) (a .vaddr) (a .asid) (a .store) (a .access) (k .before .if3 .taken) (sym (k .is-kseg1 .ensures) ∙ c .before .if4 .taken) in
+    let m = k .before .before .before in
+    let a = m .before .before .args in
+    let w = in-kseg1 (a .tlb .now) (a .vaddr) (a .asid) (a .store) (a .access) (m .if1 .taken) (sym (k .is-kseg1 .ensures) ∙ c .before .if3 .taken) in
     (c .unmapped2 .ensures ∙ w .0, w .1)
 
 is-mode-requires : tie.Need-is-mode-requires
@@ -43,7 +44,7 @@ returns-3 : tie.Need-returns-3
 unfolding viaAnswer viaTable
 returns-3 c =
     let i = c .before .before .before in
-    rw (← i .is-mode .ensures, c .before .before .if5 .taken) (c .translate .ensures)
+    rw (← i .is-mode .ensures, c .before .before .if4 .taken) (c .translate .ensures)
 
 failed-requires : tie.Need-failed-requires
 failed-requires c κs = search needs
@@ -52,8 +53,8 @@ returns-4 : tie.Need-returns-4
 unfolding viaAnswer viaTable
 returns-4 c =
     let i = c .before .before in
-    rw (← i .is-mode .ensures, c .before .if5 .left)
-    (c .failed .ensures, sym (at-home (i .before .before .before .before .before .args .tlb .now)))
+    rw (← i .is-mode .ensures, c .before .if4 .left)
+    (c .failed .ensures, sym (at-home (i .before .before .before .args .tlb .now)))
 
 pub rimjhodek-translate-via-spec : {M : Type 1} → statement M
 rimjhodek-translate-via-spec =
