@@ -4,7 +4,7 @@ use mathlib.Core.Bool.{Bool, false, cond, _&&_, _||_}
 use mathlib.Core.List.{List, [], _∷_, _++_}
 use Prim.Native.Nat.{ℕ, zero, suc, _+_, _*_, _/_, _%_, _^_}
 use lib.Dec.{eqb, ltb}
-use lib.ListN.{getD, set}
+use lib.ListN.{getD, set, replicate}
 use Rattle.bits.specs.Field.{fieldOf, bit}
 use Rattle.bits.specs.Mask.{cleared}
 use Rattle.bits.specs.Extension.{low32Of}
@@ -107,6 +107,10 @@ tableWords t =
 -- the slots empty
 abbrev pub emptied : List ℕ → List ℕ
 emptied ws = set (set ws 128 (over 8 (getD ws 128 0) 32)) 129 (over 8 (getD ws 129 0) 32)
+
+-- a table of one entry alone
+abbrev pub filledWith : Entry → Tlb
+filledWith e = record { entries = replicate 32 e; itlb = 32 ∷ 32 ∷ []; «itlb_lru» = 0; shutdown = false }
 
 -- the lowest entry that matches EntryHi's own address and ASID, or 8000_0000
 unfoldable pub indexFor : List ℕ → ℕ → ℕ

@@ -5,16 +5,16 @@ ghost use Rattle.tlb.specs.Table.{freshEntry, freshTable};
 ghost use Rattle.tlb.specs.Moves.{entryOf, writtenOf, readEntryOf, probeOf};
 ghost use Rattle.tlb.specs.Words.{hiWord, loWord};
 ghost use Rattle.rimjhodek.specs.Registers.{cop0In, putIn};
-ghost use Rattle.rimjhodek.specs.Table.{entryIn, tableIn, putMicro, putEntry, tableWords, emptied, indexFor};
+ghost use Rattle.rimjhodek.specs.Table.{entryIn, tableIn, putMicro, putEntry, tableWords, emptied, filledWith, indexFor};
 use crate::table::lowest;
 use crate::words::cop0_in;
 use crate::words::sized;
 use cop0::Cop0;
 use tlb::Entry;
 use tlb::PageEntry;
+use tlb::Tlb;
 use tlb::entry_from;
 use tlb::page_from;
-use tlb::registers_from;
 
 // A fresh table, in place: one that is built first takes as much stack. Whatever was lent is overwritten whole.
 #[no_mangle]
@@ -58,7 +58,7 @@ pub extern "C" fn rimjhodek_read_entry(tlb: &[u64; 132], index: usize, cop0: &mu
 {
     sized(*cop0);
     let e = entry_in(tlb, index % 32);
-    let after = registers_from(e, cop0_in(*cop0));
+    let after = filled_with(e).read_entry(0, cop0_in(*cop0));
     let stored = after.regs;
     cop0[5] = stored[5];
     cop0[10] = stored[10];
@@ -150,4 +150,16 @@ fn empty(tlb: &mut [u64; 132])
 {
     tlb[128] = bits::with_field(tlb[128], 7, 0, 32);
     tlb[129] = bits::with_field(tlb[129], 7, 0, 32);
+}
+
+// A table that holds one entry alone, for an operation on one.
+fn filled_with(e: Entry) -> Tlb
+    ensures { λ r. ⌜ r ≡ filledWith e ⌝ }
+{
+    Tlb {
+        entries: [e; 32],
+        itlb: [32, 32],
+        itlb_lru: 0,
+        shutdown: false,
+    }
 }

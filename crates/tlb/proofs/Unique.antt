@@ -26,7 +26,6 @@ use Rattle.tlb.proofs.table.Tlb.itlb_probe.Reads as itlb-probe
 use Rattle.tlb.proofs.table.Tlb.itlb_fill.Reads as itlb-fill
 use Rattle.tlb.proofs.moves.page_from.Reads as page-from
 use Rattle.tlb.proofs.moves.entry_from.Reads as entry-from
-use Rattle.tlb.proofs.moves.registers_from.Reads as registers-from
 
 pub uncached-unique : (a : PageEntry × Unit {0}) (r r′ : Bool) → uncached.Post tt a r a → uncached.Post tt a r′ a → r ≡ r′
 uncached-unique a r r′ = same
@@ -58,10 +57,6 @@ page-from-unique a r r′ = same
 
 pub entry-from-unique : (a : Cop0 × Unit {0}) (r r′ : Entry) → entry-from.Post tt a r a → entry-from.Post tt a r′ a → r ≡ r′
 entry-from-unique a r r′ = same
-
-pub registers-from-unique : (a : Entry × (Cop0 × Unit {0})) (r r′ : Cop0) → registers-from.Post tt a r a
-    → registers-from.Post tt a r′ a → r ≡ r′
-registers-from-unique a r r′ = same
 
 pub write-entry-unique : (a : Tlb × (ℕ × (Cop0 × Unit {0}))) (r r′ : Tlb) → write-entry.Post tt a r a
     → write-entry.Post tt a r′ a → r ≡ r′

@@ -72,14 +72,12 @@ loOf p g = bitOr (bitOr (bitOr (bitOr (p .pfn * 2 ^ 6) (p .c * 2 ^ 3)) (bit (p .
 abbrev pub hiOf : Entry → ℕ
 hiOf e = bitOr (bitOr (e .region % 4 * 2 ^ 62) (e .vpn2)) (e .asid)
 
--- an entry's registers, each under the bits that it has
-abbrev pub registersOf : Entry → Cop0 → Cop0
-registersOf e c =
+-- the entry's registers, each under the bits that it has
+unfoldable pub readEntryOf : Tlb → ℕ → Cop0 → Cop0
+readEntryOf t i c =
+    let e : Entry = entryAt t (i % 32) in
     setHardwareOf (setHardwareOf (setHardwareOf (setHardwareOf c PageMask (e .«page_mask»)) EntryHi (hiOf e)) EntryLo0 (loOf (e .lo0) (e .global)))
     EntryLo1 (loOf (e .lo1) (e .global))
-
-unfoldable pub readEntryOf : Tlb → ℕ → Cop0 → Cop0
-readEntryOf t i c = registersOf (entryAt t (i % 32)) c
 
 -- the lowest entry that matches EntryHi's own address and ASID goes to Index, or 8000_0000
 unfoldable pub probeOf : Tlb → Cop0 → Cop0

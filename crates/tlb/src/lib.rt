@@ -12,6 +12,5 @@ pub use entries::Translated;
 pub use micro::ItlbProbed;
 pub use moves::entry_from;
 pub use moves::page_from;
-pub use moves::registers_from;
 pub use table::Looked;
 pub use table::Tlb;

@@ -1,7 +1,7 @@
 // Entries to and from the registers: TLBWI and TLBWR, TLBR, TLBP.
 ghost use mathlib.Core.Path.{_≡_};
 ghost use Prim.Native.Nat.{_%_};
-ghost use Rattle.tlb.specs.Moves.{canonicalOf, pageOf, globalOf, entryOf, writtenOf, loOf, hiOf, registersOf, readEntryOf, probeOf};
+ghost use Rattle.tlb.specs.Moves.{canonicalOf, pageOf, globalOf, entryOf, writtenOf, loOf, hiOf, readEntryOf, probeOf};
 use crate::entries::Entry;
 use crate::entries::PageEntry;
 use crate::table::Tlb;
@@ -19,11 +19,17 @@ impl Tlb {
         self
     }
 
-    // `TLBR`: an entry goes back into the registers.
+    // `TLBR`: an entry goes back into the registers. EntryHi has no G, so both halves take the entry's.
     pub fn read_entry(self, index: usize, cop0: Cop0) -> Cop0
         ensures { λ r. ⌜ r ≡ readEntryOf self index cop0 ⌝ }
     {
-        registers_from(self.entry(index), cop0)
+        let e = self.entry(index);
+        let even = e.lo0;
+        let odd = e.lo1;
+        cop0.set_hardware(Cop0::PAGE_MASK, e.page_mask as u64)
+            .set_hardware(Cop0::ENTRY_HI, hi_from(e))
+            .set_hardware(Cop0::ENTRY_LO0, lo_from(even, e.global))
+            .set_hardware(Cop0::ENTRY_LO1, lo_from(odd, e.global))
     }
 
     // `TLBP`: Index takes the number of the lowest entry that matches EntryHi, or its bit 31 (5.4.1).
@@ -96,18 +102,6 @@ fn global_from(lo0: u64, lo1: u64) -> bool
         return false;
     }
     bits::field(lo1, 0, 0) == 1
-}
-
-// The registers with an entry in them. EntryHi has no G, so both halves take the entry's.
-pub fn registers_from(e: Entry, cop0: Cop0) -> Cop0
-    ensures { λ r. ⌜ r ≡ registersOf e cop0 ⌝ }
-{
-    let even = e.lo0;
-    let odd = e.lo1;
-    cop0.set_hardware(Cop0::PAGE_MASK, e.page_mask as u64)
-        .set_hardware(Cop0::ENTRY_HI, hi_from(e))
-        .set_hardware(Cop0::ENTRY_LO0, lo_from(even, e.global))
-        .set_hardware(Cop0::ENTRY_LO1, lo_from(odd, e.global))
 }
 
 fn hi_from(e: Entry) -> u64

@@ -18,11 +18,14 @@ sized-requires c κs = search needs
 entry-in-requires : tie.Need-entry-in-requires
 entry-in-requires c κs = search needs
 
+filled-with-requires : tie.Need-filled-with-requires
+filled-with-requires c κs = search needs
+
 cop0-in-requires : tie.Need-cop0-in-requires
 cop0-in-requires c κs = search needs
 
-registers-from-requires : tie.Need-registers-from-requires
-registers-from-requires c κs = search needs
+read-entry-requires : tie.Need-read-entry-requires
+read-entry-requires c κs = search needs
 
 array-read-cop0 : tie.Need-array-read-cop0
 array-read-cop0 c = search needs
@@ -52,12 +55,12 @@ returns : tie.Need-returns
 unfolding readEntryOf
 returns c =
     let r = c .before in
-    let e = r .before .before .before in
+    let e = r .before .before .before .before in
     let a = e .before .before .before .args in
     let ws = a .cop0 .now in
     let t = tableIn (a .tlb .now) in
-    let after : r .registers-from .result ≡ readEntryOf t (a .index) (cop0In ws) =
-    rw (r .registers-from .ensures, r .before .cop0-in .ensures, e .entry-in .ensures, entry-at (a .tlb .now) (a .index % 32) (omega arith)) in
+    let after : r .read-entry .result ≡ readEntryOf t (a .index) (cop0In ws) =
+    rw (r .read-entry .ensures, r .before .cop0-in .ensures, r .before .before .before .filled-with .ensures, e .entry-in .ensures, entry-at (a .tlb .now) (a .index % 32) (omega arith)) in
     ap (λ (d : Cop0). puttingBack ofRead (d .regs) ws) after ∙ put-read ws (e .before .sized .ensures) t (a .index)
 
 pub rimjhodek-read-entry-spec : {M : Type 1} → statement M
@@ -66,8 +69,9 @@ rimjhodek-read-entry-spec =
     (tie.spec
     sized-requires
     entry-in-requires
+    filled-with-requires
     cop0-in-requires
-    registers-from-requires
+    read-entry-requires
     array-read-cop0
     element-write-cop0
     array-read-cop0-2
