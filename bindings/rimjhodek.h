@@ -149,8 +149,10 @@ enum {
     RIMJHODEK_FAULT_ADDRESS = 4 /* of rimjhodek_translate_via alone */
 };
 
-/* No entry has this number: an address in a direct segment. */
-#define RIMJHODEK_NO_ENTRY 32
+/* The entry of an address in a direct segment, which no entry gave. */
+enum {
+    RIMJHODEK_NO_ENTRY = 32
+};
 
 typedef struct RimjhodekLooked {
     uint8_t error; /* 0, or why */

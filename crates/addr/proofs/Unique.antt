@@ -13,6 +13,7 @@ use Rattle.addr.proofs.Answers.{access-one, segment-one, translate-one}
 use Rattle.addr.proofs.access.Access.kernel.Reads as kernel
 use Rattle.addr.proofs.access.Access.from_status.Reads as from-status
 use Rattle.addr.proofs.access.Access.segment.Reads as segment
+use Rattle.addr.proofs.segments.within.Reads as within
 use Rattle.addr.proofs.translate.translate_via.Reads as translate-via
 
 abbrev made : TranslateAnswer → Tlb → Translation
@@ -27,6 +28,9 @@ from-status-unique a r r′ p q = access-one r r′ (same p q)
 
 pub segment-unique : (a : Access × (ℕ × Unit {0})) (r r′ : Segment) → segment.Post tt a r a → segment.Post tt a r′ a → r ≡ r′
 segment-unique a r r′ p q = segment-one r r′ (same p q)
+
+pub within-unique : (a : ℕ × (ℕ × (ℕ × Unit {0}))) (r r′ : Bool) → within.Post tt a r a → within.Post tt a r′ a → r ≡ r′
+within-unique a r r′ = same
 
 pub translate-via-unique : (a : Tlb × (ℕ × (ℕ × (Bool × (Access × Unit {0}))))) (r r′ : Translation)
     → translate-via.Post tt a r a → translate-via.Post tt a r′ a → r ≡ r′

@@ -8,6 +8,7 @@ pub use access::AccessAnswer;
 pub use access::Mode;
 pub use segments::Cached;
 pub use segments::Segment;
+pub use segments::within;
 pub use translate::Physical;
 pub use translate::TranslateAnswer;
 pub use translate::TranslateError;

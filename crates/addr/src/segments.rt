@@ -44,6 +44,13 @@ impl Access {
     }
 }
 
+// Whether an address lies from first to last, both inside.
+pub fn within(v: u64, first: u64, last: u64) -> bool
+    ensures { λ r. ⌜ r ≡ inside first last v ⌝ }
+{
+    first <= v && v <= last
+}
+
 // The first and last addresses of the segments that more than one mode has. The low one begins at 0 in each of them.
 const USEG_LAST: u64 = 0x7FFF_FFFF;
 
@@ -161,11 +168,4 @@ fn direct(v: u64, hi: u32, cached: Cached) -> Segment
 {
     let addr = bits::field(v, hi, 0) as u32;
     Segment::Direct { addr, cached }
-}
-
-// Whether an address lies from first to last, both inside.
-fn within(v: u64, first: u64, last: u64) -> bool
-    ensures { λ r. ⌜ r ≡ inside first last v ⌝ }
-{
-    first <= v && v <= last
 }

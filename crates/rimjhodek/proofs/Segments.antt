@@ -19,7 +19,7 @@ use Rattle.addr.specs.declared.segments.Segment.the-variants.{Direct, Mapped}
 use Rattle.addr.specs.Answers.{toldSegment}
 use Rattle.addr.specs.Segments.{direct, how, SegmentRow, row, inside, segmentIn, rowsOf, erlRow, tableOf, segmentOf}
 use Rattle.addr.proofs.Answers.{segment-one}
-use Rattle.rimjhodek.specs.Translation.{isUseg, isKseg0, isKseg1}
+use Rattle.rimjhodek.specs.Translation.{isUseg}
 
 pub segment-told : (g : Segment) (a : Access) (v : ℕ) → toldSegment g ≡ toldSegment (segmentOf a v) → segmentOf a v ≡ g
 segment-told g a v e = sym (segment-one g (segmentOf a v) e)
@@ -80,7 +80,7 @@ module _ (f l v : ℕ) (hf : f ≤ v) (hl : v ≤ l) where
       go false e rest = rw rest
 
 -- KSEG0 and KSEG1
-abbrev kseg : Cached → SegmentRow
+abbrev pub kseg : Cached → SegmentRow
 kseg Yes = row 0xFFFF_FFFF_8000_0000 0xFFFF_FFFF_9FFF_FFFF (direct 28 Yes)
 kseg No = row 0xFFFF_FFFF_A000_0000 0xFFFF_FFFF_BFFF_FFFF (direct 28 No)
 
@@ -100,18 +100,10 @@ at-bits : (c : Cached) (v : ℕ) → how (kseg c .kind) v ≡ Direct (fieldOf v 
 at-bits Yes v = refl
 at-bits No v = refl
 
-kseg-segment : (c : Cached) (a : Access) (v : ℕ) → a .mode ≡ Kernel → inside (kseg c .first) (kseg c .last) v ≡ true
+pub kseg-segment : (c : Cached) (a : Access) (v : ℕ) → a .mode ≡ Kernel → inside (kseg c .first) (kseg c .last) v ≡ true
     → segmentOf a v ≡ Direct (fieldOf v 28 0) c
 unfolding segmentOf
 kseg-segment c a v m e =
     let h = within (kseg c .first) (kseg c .last) v e in
     let met-is : met (kseg c .first) (kseg c .last) (tableOf a) ≡ kseg c ∷ [] = rw m (one-met c (a .wide) (a .erl)) in
     by-met (kseg c .first) (kseg c .last) v (h .0) (h .1) (tableOf a) ∙ rw (met-is, e) (at-bits c v)
-
-pub kseg0-segment : (a : Access) (v : ℕ) → a .mode ≡ Kernel → isKseg0 v ≡ true → segmentOf a v ≡ Direct (fieldOf v 28 0) Yes
-unfolding isKseg0
-kseg0-segment = kseg-segment Yes
-
-pub kseg1-segment : (a : Access) (v : ℕ) → a .mode ≡ Kernel → isKseg1 v ≡ true → segmentOf a v ≡ Direct (fieldOf v 28 0) No
-unfolding isKseg1
-kseg1-segment = kseg-segment No

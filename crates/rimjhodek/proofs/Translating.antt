@@ -10,16 +10,15 @@ use Rattle.tlb.specs.Lookup.{lookupAnswer, lookupTable}
 use Rattle.addr.specs.declared.access.Mode.the-variants.{Kernel}
 use Rattle.addr.specs.declared.access.Access.{Access}
 use Rattle.addr.specs.declared.segments.Cached.{Cached}
-use Rattle.addr.specs.declared.segments.Cached.the-variants.{Yes, No}
 use Rattle.addr.specs.declared.segments.Segment.the-variants.{Direct, Mapped, Invalid}
-use Rattle.addr.specs.Segments.{segmentOf}
+use Rattle.addr.specs.Segments.{inside, segmentOf}
 use Rattle.addr.specs.Translate.{mappedAnswer, translateAnswer, translateTable}
 use Rattle.rimjhodek.specs.declared.modes.By.{By}
 use Rattle.rimjhodek.specs.declared.table.Looked.{Looked}
 use Rattle.rimjhodek.specs.Modes.{isMode, isCached, accessIn, modeIn}
 use Rattle.rimjhodek.specs.Table.{tableIn, putMicro, failed, lookedOf}
-use Rattle.rimjhodek.specs.Translation.{translatedOf, viaAnswer, viaTable, isKseg0, isKseg1, direct, unmapped}
-use Rattle.rimjhodek.proofs.Segments.{kseg0-segment, kseg1-segment}
+use Rattle.rimjhodek.specs.Translation.{translatedOf, viaAnswer, viaTable, direct, unmapped}
+use Rattle.rimjhodek.proofs.Segments.{kseg, kseg-segment}
 use Rattle.rimjhodek.proofs.Slots.{at-home}
 
 -- a lookup's answer crosses as the translation's that it becomes
@@ -56,18 +55,12 @@ module _ (ws : List ℕ) (v asid : ℕ) (store : Bool) (a : By) (kernel : a .mod
   abbrev Goes : Looked → Type 0
   Goes r = (r ≡ viaAnswer (tableIn ws) v asid store a) × (ws ≡ putMicro ws (viaTable (tableIn ws) v asid a))
 
-  by-kseg : (c : Cached) → segmentOf (accessIn a) v ≡ Direct (fieldOf v 28 0) c → Goes (unmapped v (not (isCached c)))
-  unfolding viaAnswer viaTable
-  by-kseg c e =
-      let named : isMode (a .mode) ≡ true = ap isMode kernel in
-      rw named (directly ws v asid store (accessIn a) (fieldOf v 28 0) c e)
-
   mode-is : accessIn a .mode ≡ Kernel
   unfolding modeIn
   mode-is = ap modeIn kernel
 
-  pub in-kseg0 : isKseg0 v ≡ true → Goes (unmapped v false)
-  in-kseg0 e = by-kseg Yes (kseg0-segment (accessIn a) v mode-is e)
-
-  pub in-kseg1 : isKseg1 v ≡ true → Goes (unmapped v true)
-  in-kseg1 e = by-kseg No (kseg1-segment (accessIn a) v mode-is e)
+  pub in-kseg : (c : Cached) → inside (kseg c .first) (kseg c .last) v ≡ true → Goes (unmapped v (not (isCached c)))
+  unfolding viaAnswer viaTable
+  in-kseg c e =
+      let named : isMode (a .mode) ≡ true = ap isMode kernel in
+      rw named (directly ws v asid store (accessIn a) (fieldOf v 28 0) c (kseg-segment c (accessIn a) v mode-is e))

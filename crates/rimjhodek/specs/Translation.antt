@@ -32,10 +32,10 @@ unfoldable pub isUseg : Bool → ℕ → Bool
 isUseg erl v = not erl && inside 0 0x7FFF_FFFF v
 
 -- KSEG0, which is cached, and KSEG1, which is not (5.2.4)
-unfoldable pub isKseg0 : ℕ → Bool
+abbrev pub isKseg0 : ℕ → Bool
 isKseg0 v = inside 0xFFFF_FFFF_8000_0000 0xFFFF_FFFF_9FFF_FFFF v
 
-unfoldable pub isKseg1 : ℕ → Bool
+abbrev pub isKseg1 : ℕ → Bool
 isKseg1 v = inside 0xFFFF_FFFF_A000_0000 0xFFFF_FFFF_BFFF_FFFF v
 
 -- an address that no entry gave

@@ -79,14 +79,14 @@ fn is_useg(erl: bool, vaddr: u64) -> bool
 fn is_kseg0(vaddr: u64) -> bool
     ensures { λ r. ⌜ r ≡ isKseg0 vaddr ⌝ }
 {
-    0xFFFF_FFFF_8000_0000 <= vaddr && vaddr <= 0xFFFF_FFFF_9FFF_FFFF
+    addr::within(vaddr, 0xFFFF_FFFF_8000_0000, 0xFFFF_FFFF_9FFF_FFFF)
 }
 
 // Does an address lie in KSEG1, which is not?
 fn is_kseg1(vaddr: u64) -> bool
     ensures { λ r. ⌜ r ≡ isKseg1 vaddr ⌝ }
 {
-    0xFFFF_FFFF_A000_0000 <= vaddr && vaddr <= 0xFFFF_FFFF_BFFF_FFFF
+    addr::within(vaddr, 0xFFFF_FFFF_A000_0000, 0xFFFF_FFFF_BFFF_FFFF)
 }
 
 // Where an address of either leads: to its bits 28..0.

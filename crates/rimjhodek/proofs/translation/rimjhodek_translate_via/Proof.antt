@@ -1,8 +1,9 @@
 -- The kernel's KSEG0 and KSEG1 first, and then by whether the mode's number names one.
 use mathlib.Core.Path.{sym, _∙_}
+use Rattle.addr.specs.declared.segments.Cached.the-variants.{Yes, No}
 use Rattle.rimjhodek.specs.Translation.{viaAnswer, viaTable}
 use Rattle.rimjhodek.proofs.Slots.{at-home}
-use Rattle.rimjhodek.proofs.Translating.{in-kseg0, in-kseg1}
+use Rattle.rimjhodek.proofs.Translating.{in-kseg}
 use borrow.Author.Needs.{needs}
 use Rattle.rimjhodek.proofs.translation.rimjhodek_translate_via.Statement.{statement}
 use Rattle.rimjhodek.proofs.translation.rimjhodek_translate_via.Tie as tie
@@ -17,7 +18,7 @@ returns : tie.Need-returns
 returns c =
     let k = c .before .before in
     let a = k .before .before .before .args in
-    let w = in-kseg0 (a .tlb .now) (a .vaddr) (a .asid) (a .store) (a .access) (k .before .if1 .taken) (sym (k .is-kseg0 .ensures) ∙ c .before .if2 .taken) in
+    let w = in-kseg (a .tlb .now) (a .vaddr) (a .asid) (a .store) (a .access) (k .before .if1 .taken) Yes (sym (k .is-kseg0 .ensures) ∙ c .before .if2 .taken) in
     (c .unmapped .ensures ∙ w .0, w .1)
 
 is-kseg1-requires : tie.Need-is-kseg1-requires
@@ -31,7 +32,7 @@ returns-2 c =
     let k = c .before .before in
     let m = k .before .before .before in
     let a = m .before .before .args in
-    let w = in-kseg1 (a .tlb .now) (a .vaddr) (a .asid) (a .store) (a .access) (m .if1 .taken) (sym (k .is-kseg1 .ensures) ∙ c .before .if3 .taken) in
+    let w = in-kseg (a .tlb .now) (a .vaddr) (a .asid) (a .store) (a .access) (m .if1 .taken) No (sym (k .is-kseg1 .ensures) ∙ c .before .if3 .taken) in
     (c .unmapped2 .ensures ∙ w .0, w .1)
 
 is-mode-requires : tie.Need-is-mode-requires
