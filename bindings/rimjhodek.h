@@ -34,7 +34,7 @@ enum {
     RIMJHODEK_REFUSED_PARTS = 1,   /* a cache's lines or tags have the wrong length */
     RIMJHODEK_REFUSED_LENGTH = 2,  /* a data access of 0 bytes, or over 8 */
     RIMJHODEK_REFUSED_OFFSET = 3,  /* an access past the end of its line */
-    RIMJHODEK_REFUSED_MODE = 4,    /* Status.KSU is 3 and EXL is 0 */
+    RIMJHODEK_REFUSED_MODE = 4,    /* Status.KSU is 3, and EXL and ERL are 0 */
     RIMJHODEK_REFUSED_COUNTS = 5,  /* an advance by 2^32 counts or more */
     RIMJHODEK_REFUSED_FORM = 6,    /* an rs field that names no access form */
     RIMJHODEK_REFUSED_NUMBER = 255 /* a number that names no mode, exception or vector */
@@ -201,7 +201,7 @@ typedef struct RimjhodekReached {
     uint32_t addr;
 } RimjhodekReached;
 
-/* The access that Status asks for. */
+/* The access that Status asks for: by the kernel where EXL or ERL is 1 or KSU is 0, and KX is its width then. */
 RimjhodekGranted rimjhodek_from_status(uint64_t status);
 RimjhodekReached rimjhodek_segment(uint64_t vaddr, RimjhodekBy access);
 RimjhodekLooked rimjhodek_translate_via(uint64_t tlb[RIMJHODEK_TLB_WORDS], uint64_t vaddr, uint8_t asid, bool store,

@@ -173,6 +173,11 @@ static void translation(void) {
     IS(rimjhodek_from_status(0x18).refused, RIMJHODEK_REFUSED_MODE);
     IS(rimjhodek_from_status(0x48).mode, RIMJHODEK_MODE_SUPERVISOR);
     IS(rimjhodek_from_status(0x48).wide, 1);
+    IS(rimjhodek_from_status(0x5C).refused, 0);
+    IS(rimjhodek_from_status(0x5C).mode, RIMJHODEK_MODE_KERNEL);
+    IS(rimjhodek_from_status(0x5C).wide, 0);
+    IS(rimjhodek_from_status(0x9C).wide, 1);
+    IS(rimjhodek_from_status(0x9C).erl, 1);
 
     rimjhodek_itlb_fill(tlb, 0x12000, 7);
     IS(rimjhodek_itlb_probe(tlb, 0x12000, 7), 1);

@@ -1,4 +1,5 @@
-//! Finds the original's files and writes `original.rs`, which compiles them where they stand.
+//! Finds the original's files and writes `original.rs`, which compiles them where they stand, and
+//! `pipeline.rs`, what is used of one more.
 
 use std::path::{Path, PathBuf};
 use std::{env, fs};
@@ -17,12 +18,17 @@ fn main() {
         let file = find(&folder, module);
         text += &format!("#[allow(clippy::all)]\n#[path = {file:?}]\npub mod {module};\n");
     }
-    let exception = cut(&find(&folder, "pipeline"), "pub enum Exception {");
-    text += "/// All that the five files use of the original's pipeline.\n";
-    text +=
-        &format!("pub mod pipeline {{\nuse serde::{{Deserialize, Serialize}};\n{exception}}}\n");
-    let out = PathBuf::from(env::var_os("OUT_DIR").unwrap()).join("original.rs");
-    fs::write(out, text).unwrap();
+    let out = PathBuf::from(env::var_os("OUT_DIR").unwrap());
+    fs::write(out.join("original.rs"), text).unwrap();
+    fs::write(out.join("pipeline.rs"), pipeline(&find(&folder, "pipeline"))).unwrap();
+}
+
+/// What is used of the original's pipeline: the exceptions, and how it makes an access of Status.
+fn pipeline(file: &Path) -> String {
+    let exception = cut(file, "pub enum Exception {");
+    let access_mode = cut(file, "    fn access_mode(&self) -> crate::addr::Access {");
+    let erl = cut(file, "    fn erl(&self) -> bool {");
+    format!("{exception}\nimpl Pipeline<'_> {{\n{access_mode}\n{erl}}}\n")
 }
 
 /// The folder that holds the original. A relative name counts from the repository's root.
@@ -45,16 +51,18 @@ fn find(folder: &Path, module: &str) -> PathBuf {
     file
 }
 
-/// One item of a file, with its attributes and its documentation.
+/// One item of a file, or of a block in it, with its attributes and its documentation.
 fn cut(file: &Path, head: &str) -> String {
     let text = fs::read_to_string(file).unwrap();
     let lines: Vec<&str> = text.lines().collect();
     let at = lines.iter().position(|line| *line == head);
     let at = at.unwrap_or_else(|| panic!("{} has no line `{head}`", file.display()));
-    let above = lines[..at].iter().rev();
+    let above = lines[..at].iter().rev().map(|line| line.trim_start());
     let above = above.take_while(|line| line.starts_with("///") || line.starts_with("#["));
     let from = at - above.count();
-    let length = lines[at..].iter().position(|line| *line == "}").unwrap();
+    let indent = &head[..head.len() - head.trim_start().len()];
+    let last = format!("{indent}}}");
+    let length = lines[at..].iter().position(|line| *line == last).unwrap();
     lines[from..=at + length].join("\n") + "\n"
 }
 

@@ -1,23 +1,16 @@
 //! The original's records, and what the scope (document 01) adds to them.
 
-use original::addr::{Access, Mode};
+use original::addr::Access;
 use original::cache::{Dcache, Icache};
 use original::cop0::{reg, Cop0};
 use original::tlb::{Tlb, JTLB_ENTRIES};
 
+use crate::access;
 use crate::answers;
 use crate::fields::Fields;
 
 /// The timer's pending bit.
 const TIMER: u8 = 7;
-
-/// Bits of Status.
-const EXL: u8 = 1;
-const ERL: u8 = 2;
-const KSU: u8 = 3;
-const UX: u8 = 5;
-const SX: u8 = 6;
-const KX: u8 = 7;
 
 /// Why an operation is turned away, by the scope's number.
 #[derive(Clone, Copy, Debug, Eq, PartialEq)]
@@ -28,7 +21,7 @@ impl Refusal {
     pub const LENGTH: Self = Self(2);
     /// Data or a word that goes past its line's end.
     pub const OFFSET: Self = Self(3);
-    /// KSU is 3, which names no mode, and EXL is 0.
+    /// KSU is 3, which names no mode, and EXL and ERL are 0.
     pub const MODE: Self = Self(4);
     /// An advance of 2^32 counts or more: the timer's distances would come round unseen.
     pub const COUNTS: Self = Self(5);
@@ -70,18 +63,9 @@ impl Machine {
         Ok(edge)
     }
 
-    /// The scope's access, read from Status; the original leaves it to its pipeline.
+    /// The access that Status asks for; the original leaves it to its pipeline.
     pub fn access(&self) -> Result<Access, Refusal> {
-        let status = self.cop0.read(reg::STATUS);
-        let bit = |number: u8| status >> number & 1 == 1;
-        let ksu = if bit(EXL) { 0 } else { status >> KSU & 3 };
-        let (mode, wide) = match ksu {
-            0 => (Mode::Kernel, bit(KX)),
-            1 => (Mode::Supervisor, bit(SX)),
-            2 => (Mode::User, bit(UX)),
-            _ => return Err(Refusal::MODE),
-        };
-        Ok(Access { mode, wide, erl: bit(ERL) })
+        access::asked_for(self.cop0.read(reg::STATUS))
     }
 
     /// The answer to `entry`. The original takes the number modulo 32 by itself.
@@ -124,6 +108,8 @@ impl Machine {
 
 #[cfg(test)]
 mod tests {
+    use original::addr::Mode;
+
     use super::*;
 
     #[test]
@@ -142,23 +128,18 @@ mod tests {
         assert!(lines[34].starts_with(last));
     }
 
-    /// Each mode takes its own width bit, and EXL is kernel mode under any KSU.
+    /// Status as it was written is asked.
     #[test]
     fn access_from_status() {
-        let access = |status| {
-            let mut machine = Machine::new();
-            machine.cop0.write(reg::STATUS, status);
-            machine.access()
-        };
+        let mut machine = Machine::new();
         let mode = |mode, wide, erl| Ok(Access { mode, wide, erl });
-        assert_eq!(access(0x80), mode(Mode::Kernel, true, false));
-        assert_eq!(access(0x60), mode(Mode::Kernel, false, false));
-        assert_eq!(access(0x4C), mode(Mode::Supervisor, true, true));
-        assert_eq!(access(0xA8), mode(Mode::Supervisor, false, false));
-        assert_eq!(access(0x30), mode(Mode::User, true, false));
-        assert_eq!(access(0xD0), mode(Mode::User, false, false));
-        assert_eq!(access(0x9A), mode(Mode::Kernel, true, false));
-        assert_eq!(access(0xFD), Err(Refusal::MODE));
+        assert_eq!(machine.access(), mode(Mode::Kernel, false, true));
+        machine.cop0.write(reg::STATUS, 0xB4);
+        assert_eq!(machine.access(), mode(Mode::Kernel, true, true));
+        machine.cop0.write(reg::STATUS, 0xB0);
+        assert_eq!(machine.access(), mode(Mode::User, true, false));
+        machine.cop0.write(reg::STATUS, 0xF9);
+        assert_eq!(machine.access(), Err(Refusal::MODE));
     }
 
     /// The scope's numbers P10 and P11.

@@ -59,11 +59,11 @@ pub enum Segment {
 #[cfg_attr(feature = "serde", derive(serde::Serialize, serde::Deserialize))]
 #[repr(u8)]
 pub enum Mode {
-    /// `Status.KSU` is 0, or `EXL` is set.
+    /// `Status.KSU` is 0, or `EXL` or `ERL` is set.
     Kernel,
-    /// `Status.KSU` is 1.
+    /// `Status.KSU` is 1, and neither is set.
     Supervisor,
-    /// `Status.KSU` is 2.
+    /// `Status.KSU` is 2, and neither is set.
     User,
 }
 
@@ -87,11 +87,12 @@ impl Access {
         Self { mode: Mode::Kernel, wide: false, erl: false }
     }
 
-    /// The access that Status asks for. The original leaves this to its pipeline.
+    /// The access that Status asks for, as the original's pipeline makes it (`access_mode`), which
+    /// takes KSU 3 for the kernel's.
     ///
     /// # Errors
     ///
-    /// [`Refusal::Mode`] where KSU is 3 and EXL is 0.
+    /// [`Refusal::Mode`] where KSU is 3, and EXL and ERL are 0.
     pub fn from_status(status: u64) -> Result<Self, Refusal> {
         let granted = ffi::rimjhodek_from_status(status);
         let mode = match (granted.refused, granted.mode) {

@@ -235,14 +235,15 @@ fn granted_comes_out() {
     let granted = |mode, wide, erl| Granted { refused: 0, mode, wide, erl };
     for (ksu, width) in [(0, 7), (1, 6), (2, 5)] {
         for wide in [false, true] {
-            for erl in [false, true] {
-                let status = ksu << 3 | u64::from(wide) << width | u64::from(erl) << 2;
-                assert_eq!(ffi::rimjhodek_from_status(status), granted(ksu as u8, wide, erl));
-            }
+            let status = ksu << 3 | u64::from(wide) << width;
+            assert_eq!(ffi::rimjhodek_from_status(status), granted(ksu as u8, wide, false));
+            // By the kernel, whose width is a bit of its own.
+            let kernel = granted(0, wide && ksu == 0, true);
+            assert_eq!(ffi::rimjhodek_from_status(status | 1 << 2), kernel);
         }
     }
     let none = Granted { refused: 4, ..granted(0, false, false) };
-    assert_eq!(ffi::rimjhodek_from_status(3 << 3 | 0xE4), none);
+    assert_eq!(ffi::rimjhodek_from_status(3 << 3 | 0xE0), none);
 }
 
 #[test]

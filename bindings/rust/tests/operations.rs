@@ -158,9 +158,31 @@ fn addresses_are_translated() {
 fn the_access_that_status_asks_for() {
     let access = |mode, wide, erl| Ok(Access { mode, wide, erl });
     assert_eq!(Access::from_status(0x80), access(Mode::Kernel, true, false));
-    assert_eq!(Access::from_status(0x4C), access(Mode::Supervisor, true, true));
+    assert_eq!(Access::from_status(0x48), access(Mode::Supervisor, true, false));
     assert_eq!(Access::from_status(0xD0), access(Mode::User, false, false));
     assert_eq!(Access::from_status(0x1A), access(Mode::Kernel, false, false));
+    assert_eq!(Access::from_status(0x5C), access(Mode::Kernel, false, true));
+    assert_eq!(Access::from_status(0x94), access(Mode::Kernel, true, true));
+}
+
+/// Boot code that sets KSU before it clears ERL goes on in the reset handler, and ERET leaves it.
+#[test]
+fn a_cold_console_boots() {
+    let (mut cop0, mut tlb) = (Cop0::new(), Tlb::new());
+    let access = |cop0: &Cop0| Access::from_status(cop0.read(reg::STATUS));
+    let handler = exception::vector(0, VectorKind::Reset);
+    cop0.mtc0(reg::STATUS, 0x0040_0014);
+    let boot = Access { mode: Mode::Kernel, wide: false, erl: true };
+    assert_eq!(access(&cop0), Ok(boot));
+    let rom = Physical { addr: 0x1FC0_0000, cached: Cached::No, entry: None };
+    assert_eq!(addr::translate_via(&mut tlb, handler, 0, false, boot), Ok(rom));
+
+    cop0.mtc0(reg::ERROR_EPC, 0x1000);
+    assert_eq!(exception::eret(&mut cop0), 0x1000);
+    let user = Access { mode: Mode::User, wide: false, erl: false };
+    assert_eq!(access(&cop0), Ok(user));
+    let fetched = addr::translate_via(&mut tlb, handler, 0, false, user);
+    assert_eq!(fetched, Err(TranslateError::Address));
 }
 
 #[test]

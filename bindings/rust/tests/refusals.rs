@@ -181,7 +181,7 @@ fn the_lowest_number_is_given() {
 fn refusal_4_of_status() {
     let none = Granted { refused: 4, mode: 0, wide: false, erl: false };
     for status in 0..1024 {
-        let refused = status >> 3 & 3 == 3 && status >> 1 & 1 == 0;
+        let refused = status >> 3 & 3 == 3 && status >> 1 & 3 == 0;
         assert_eq!(ffi::rimjhodek_from_status(status) == none, refused);
         assert_eq!(ffi::rimjhodek_from_status(status).refused, if refused { 4 } else { 0 });
         assert_eq!(Access::from_status(status).err(), refused.then_some(Refusal::Mode));

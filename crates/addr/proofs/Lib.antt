@@ -1,4 +1,5 @@
 pub mod Answers
+pub mod Modes
 pub mod SegmentLaws
 pub mod TranslateLaws
 pub mod WhichEntry

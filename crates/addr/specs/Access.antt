@@ -1,5 +1,5 @@
 -- The access that Status asks for. Its fields (6.3.5): KX 7, SX 6, UX 5, KSU 4..3, ERL 2, EXL 1.
-use mathlib.Core.Bool.{false, _||_, cond}
+use mathlib.Core.Bool.{Bool, false, _&&_, _||_, cond}
 use mathlib.Core.List.{[], _∷_}
 use Prim.Native.Nat.{ℕ}
 use lib.Dec.{eqb}
@@ -17,10 +17,18 @@ kernelAccess = record { mode = Kernel; wide = false; erl = false }
 abbrev pub inMode : Mode → ℕ → ℕ → Told
 inMode m width s = answered (modeNumber m ∷ fieldOf s width width ∷ fieldOf s 2 2 ∷ [])
 
--- kernel when EXL is 1 or KSU is 0; KSU 1 supervisor, 2 user; refusal 4: KSU 3 with EXL 0
+-- kernel when EXL is 1, ERL is 1 or KSU is 0
+unfoldable pub isKernelOf : ℕ → Bool
+isKernelOf s = eqb (fieldOf s 1 1) 1 || eqb (fieldOf s 2 2) 1 || eqb (fieldOf s 4 3) 0
+
+-- and its width then is KX; else KSU 1 is supervisor, 2 user, each with its own width, and 3 is refused
 unfoldable pub accessOf : ℕ → Told
 accessOf s =
-    cond (eqb (fieldOf s 1 1) 1 || eqb (fieldOf s 4 3) 0) (inMode Kernel 7 s)
+    cond (isKernelOf s) (inMode Kernel 7 s)
     (cond (eqb (fieldOf s 4 3) 1) (inMode Supervisor 6 s)
     (cond (eqb (fieldOf s 4 3) 2) (inMode User 5 s)
     (refused 4)))
+
+-- KSU is 3 and both bits are 0: refusal 4 is given exactly there
+abbrev pub namesNone : ℕ → Bool
+namesNone s = eqb (fieldOf s 4 3) 3 && eqb (fieldOf s 1 1) 0 && eqb (fieldOf s 2 2) 0

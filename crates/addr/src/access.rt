@@ -1,6 +1,6 @@
 // Everything outside the address itself that decides how it translates, and its reading from Status.
 ghost use mathlib.Core.Path.{_≡_};
-ghost use Rattle.addr.specs.Access.{kernelAccess, inMode, accessOf};
+ghost use Rattle.addr.specs.Access.{kernelAccess, inMode, isKernelOf, accessOf};
 ghost use Rattle.addr.specs.Answers.{toldAccess};
 
 // The privilege mode an access is made in.
@@ -36,21 +36,33 @@ impl Access {
         }
     }
 
-    // The access that Status asks for. An exception's handler runs in kernel mode whatever KSU says, and the manual gives
-    // KSU 3 no mode.
+    // The access that Status asks for. The manual gives KSU 3 no mode.
     pub fn from_status(status: u64) -> AccessAnswer
         ensures { λ r. ⌜ toldAccess r ≡ accessOf status ⌝ }
     {
-        if bits::field(status, 1, 1) == 1 {
+        if is_kernel(status) {
             return in_mode(status, Mode::Kernel, 7);
         }
         match bits::field(status, 4, 3) {
-            0 => in_mode(status, Mode::Kernel, 7),
             1 => in_mode(status, Mode::Supervisor, 6),
             2 => in_mode(status, Mode::User, 5),
             _ => AccessAnswer::Refused(4),
         }
     }
+}
+
+// Is the access the kernel's? The handler of an exception (EXL) and that of a reset or an error (ERL) run in kernel mode
+// whatever KSU says (6.3.5): boot code may set KSU for its program before it leaves the reset handler.
+fn is_kernel(status: u64) -> bool
+    ensures { λ r. ⌜ r ≡ isKernelOf status ⌝ }
+{
+    if bits::field(status, 1, 1) == 1 {
+        return true;
+    }
+    if bits::field(status, 2, 2) == 1 {
+        return true;
+    }
+    bits::field(status, 4, 3) == 0
 }
 
 // The access in a mode whose width is Status's bit `width`.

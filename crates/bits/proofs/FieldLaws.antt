@@ -159,7 +159,7 @@ with-own x hi lo le top =
     ∙ sym (around x hi lo le)
 
 -- a field below bit lo depends on the bits below lo alone
-low-field : (y hi′ lo′ lo : ℕ) → lo′ ≤ hi′ → hi′ < lo → fieldOf (y % 2 ^ lo) hi′ lo′ ≡ fieldOf y hi′ lo′
+pub low-field : (y hi′ lo′ lo : ℕ) → lo′ ≤ hi′ → hi′ < lo → fieldOf (y % 2 ^ lo) hi′ lo′ ≡ fieldOf y hi′ lo′
 low-field y hi′ lo′ lo le h =
     let w : hi′ + 1 - lo′ + lo′ ≡ hi′ + 1 = omega arith in
     let up : lo - (hi′ + 1) + (hi′ + 1) ≡ lo = omega arith in

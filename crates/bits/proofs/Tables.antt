@@ -1,10 +1,14 @@
 -- A rule of every number below a limit, by one test that is computed at each of them.
-use mathlib.Core.Path.{_≡_, refl, subst, sym}
-use mathlib.Core.Bool.{Bool, true, false, _&&_, not}
+use mathlib.Core.Path.{_≡_, refl, subst, sym, ap₂}
+use mathlib.Core.Bool.{Bool, true, false, _&&_, not, false≢true}
+use mathlib.Core.List.{List, [], _∷_}
 use Prim.Native.Nat.{ℕ, zero, suc, _<_}
 use native.Mathlib.Nat.{not-suc-le-zero}
 use native.Mathlib.Decide.{ℕ-discrete}
 use native.Mathlib.Omega.{arith}
+use borrow.Author.Tests.{eqb-true}
+use lib.Dec.{eqb}
+use Rattle.bits.specs.Told.{Told, equal}
 
 pub and-left : (a b : Bool) → (a && b) ≡ true → a ≡ true
 and-left true b e = refl
@@ -42,3 +46,24 @@ alike-eq false false e = refl
 -- two tests that answer alike at each number below n are equal there
 pub agree : (n : ℕ) (f g : ℕ → Bool) → below n (λ k. alike (f k) (g k)) ≡ true → (k : ℕ) → k < n → f k ≡ g k
 agree n f g e k h = alike-eq (f k) (g k) (at-each n (λ k. alike (f k) (g k)) e k h)
+
+equal-eq : (xs ys : List ℕ) → equal xs ys ≡ true → xs ≡ ys
+equal-eq [] [] e = refl
+equal-eq [] (y ∷ ys) e = absurd (false≢true e)
+equal-eq (x ∷ xs) [] e = absurd (false≢true e)
+equal-eq (x ∷ xs) (y ∷ ys) e =
+    ap₂ _∷_ (eqb-true x y (and-left (eqb x y) (equal xs ys) e)) (equal-eq xs ys (and-right (eqb x y) (equal xs ys) e))
+
+-- two answers are told alike
+abbrev pub toldAlike : Told → Told → Bool
+toldAlike t u = eqb (t .number) (u .number) && equal (t .values) (u .values)
+
+told-eq : (t u : Told) → toldAlike t u ≡ true → t ≡ u
+told-eq t u e =
+    ap₂ (λ (n : ℕ) (vs : List ℕ). record { number = n; values = vs })
+    (eqb-true (t .number) (u .number) (and-left (eqb (t .number) (u .number)) (equal (t .values) (u .values)) e))
+    (equal-eq (t .values) (u .values) (and-right (eqb (t .number) (u .number)) (equal (t .values) (u .values)) e))
+
+-- two rules that tell alike at each number below n tell the same there
+pub agree-told : (n : ℕ) (f g : ℕ → Told) → below n (λ k. toldAlike (f k) (g k)) ≡ true → (k : ℕ) → k < n → f k ≡ g k
+agree-told n f g e k h = told-eq (f k) (g k) (at-each n (λ k. toldAlike (f k) (g k)) e k h)

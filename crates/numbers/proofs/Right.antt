@@ -11,6 +11,7 @@ use Rattle.cop0.specs.Random.{randomStep, randomSteps, tickRandomByOf}
 use Rattle.cop0.specs.File.{readAt, besides, writeAt, setHardwareOf}
 use Rattle.cop0.specs.Access.{moved32, dmtc0Of}
 use Rattle.cop0.specs.Advance.{moved, advanceTold, advanceOf}
+use Rattle.addr.specs.Access.{isKernelOf, accessOf}
 use Rattle.addr.specs.Segments.{inside, segmentOf}
 use Rattle.addr.specs.Translate.{translateAnswer}
 use Rattle.tlb.specs.Entries.{pageSizeOf, matchesOf, halfOf, halfAnswer, entryAnswer}
@@ -24,6 +25,7 @@ use Rattle.cache.specs.Both.{loadTold, residentTold, storeTags}
 use Rattle.numbers.specs.Table.{all}
 use Rattle.numbers.specs.Translation.{p1, p2, p3}
 use Rattle.numbers.specs.Segments.{p4, p5, p6}
+use Rattle.numbers.specs.Modes.{q2}
 use Rattle.numbers.specs.Entries.{q1}
 use Rattle.numbers.specs.Exceptions.{p7, p8}
 use Rattle.numbers.specs.RegisterFile.{p9, p10, p11}
@@ -80,3 +82,7 @@ p12-holds = refl
 pub q1-holds : all q1 ≡ true
 unfolding freshFrom matching matchesOf mergedBits pageSizeOf halfOf halfAnswer entryAnswer lookupAnswer segmentOf inside translateAnswer
 q1-holds = refl
+
+pub q2-holds : all q2 ≡ true
+unfolding isKernelOf accessOf unused archMask readAt mergedBits among wide writeMask fresh besides writeAt moved32 dmtc0Of
+q2-holds = refl

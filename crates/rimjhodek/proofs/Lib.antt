@@ -14,6 +14,7 @@ pub mod Tables
 pub mod Exact
 pub mod Stepping
 pub mod Segments
+pub mod Granting
 pub mod Translating
 pub mod Taking
 pub mod ExceptionSteps

@@ -3,7 +3,7 @@
 
 use oracle::exceptions::{detail, EXCEPTIONS};
 use oracle::parse::Operand;
-use original::addr::{translate_via, TranslateError};
+use original::addr::{translate_via, Access, TranslateError};
 use original::cop0::reg;
 use original::tlb::TlbFault;
 
@@ -28,6 +28,11 @@ const TIMER: u64 = 7;
 /// EXL, ERL, SR, TS and BEV, by their bits of Status.
 const LEVELS: [u64; 5] = [1, 2, 20, 21, 22];
 
+/// What a cold reset sets in Status, and where it goes on.
+const ERL: u64 = 1 << 2;
+const BEV: u64 = 1 << 22;
+const RESET: u64 = 0xFFFF_FFFF_BFC0_0000;
+
 /// The registers that decide an exception or a return, or are written by one.
 const REGISTERS: [u8; 8] = [
     reg::STATUS,
@@ -48,7 +53,7 @@ pub const BOUNDS: [u64; 10] =
     [0x1FFF, 1 << 13, 1 << 31, 1 << 32, 1 << 39, 1 << 40, 1 << 61, 1 << 62, 1 << 63, u64::MAX];
 
 /// How often each move is made, against the others.
-const MOVES: [(u64, Move); 15] = [
+const MOVES: [(u64, Move); 16] = [
     (40, take),
     (16, nest),
     (24, handle),
@@ -60,6 +65,7 @@ const MOVES: [(u64, Move); 15] = [
     (14, vectors),
     (16, interrupt),
     (20, fail),
+    (6, boot),
     (4, translation::write_apart),
     (6, translation::lookup),
     (2, translation::probe),
@@ -268,9 +274,8 @@ fn fail(draft: &mut Draft) {
     let (vaddr, _) = translation::address_and_asid(draft);
     let asid = draft.machine.cop0.read(reg::ENTRY_HI) as u8;
     let store = draft.rng.flag();
-    // The modes are declared in the order of their numbers.
-    let mode = access.mode as u64;
-    let operands = [vaddr, asid.into(), store.into(), mode, access.wide.into(), access.erl.into()];
+    let [mode, wide, erl] = operands_of(access);
+    let operands = [vaddr, asid.into(), store.into(), mode, wide, erl];
     let answer = translate_via(&mut draft.machine.tlb.clone(), vaddr, asid, store, access);
     draft.put("translate_via", &operands);
     let Err(error) = answer else {
@@ -280,6 +285,35 @@ fn fail(draft: &mut Draft) {
     if error == TranslateError::Tlb(TlbFault::Refill) {
         refill(draft);
         draft.put("translate_via", &operands);
+    }
+}
+
+/// MODE, WIDE and ERL. The modes are declared in the order of their numbers.
+fn operands_of(access: Access) -> [u64; 3] {
+    [access.mode as u64, access.wide.into(), access.erl.into()]
+}
+
+/// Boot code: any KSU and widths while ERL is 1, and the handler of a reset goes on; then ERL is
+/// cleared by a return or by a write of Status, and what fetched the handler is tried once more.
+fn boot(draft: &mut Draft) {
+    let status = BEV | ERL | draft.rng.below(256);
+    let vaddr = RESET + draft.rng.below(4) * 4;
+    draft.put("mtc0", &[reg::STATUS.into(), status]);
+    fetch(draft, vaddr);
+    if draft.rng.flag() {
+        give_back(draft);
+    } else {
+        draft.put("mtc0", &[reg::STATUS.into(), status & !ERL]);
+    }
+    fetch(draft, vaddr);
+}
+
+/// A translation by the access that Status asks for, if it asks for one.
+fn fetch(draft: &mut Draft, vaddr: u64) {
+    draft.put("access", &[]);
+    if let Ok(access) = draft.machine.access() {
+        let [mode, wide, erl] = operands_of(access);
+        draft.put("translate_via", &[vaddr, 0, 0, mode, wide, erl]);
     }
 }
 
