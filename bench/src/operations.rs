@@ -55,6 +55,13 @@ pub static OPERATIONS: &[Operation] = &[
     ),
     row!("advance", "advance by up to 15 counts and steps", random, advance, ["rimjhodek_advance"]),
     row!(
+        "access",
+        "the access that Status asks for",
+        random,
+        access,
+        ["rimjhodek_dmfc0", "rimjhodek_from_status"]
+    ),
+    row!(
         "lookup-first",
         "lookup, hit in entry 0",
         |_, r| within(0, r),
@@ -249,6 +256,10 @@ fn interrupt_pending<S: Side>(machine: &mut S, _: u64) -> u64 {
 
 fn advance<S: Side>(machine: &mut S, input: u64) -> u64 {
     machine.advance(input & 15, input >> 4 & 15).into()
+}
+
+fn access<S: Side>(machine: &mut S, _: u64) -> u64 {
+    machine.access()
 }
 
 fn lookup<S: Side>(machine: &mut S, input: u64) -> u64 {

@@ -12,6 +12,7 @@ pub trait Side {
     fn dmtc0(&mut self, n: u8, value: u64);
     fn interrupt_pending(&self) -> bool;
     fn advance(&mut self, counts: u64, steps: u64) -> bool;
+    fn access(&self) -> u64;
     fn lookup(&mut self, vaddr: u64, store: bool) -> u64;
     fn translate(&mut self, vaddr: u64, store: bool) -> u64;
     fn write_entry(&mut self, index: usize);
@@ -51,8 +52,14 @@ fn advance_in_one(cop0: &mut rimjhodek::cop0::Cop0, counts: u64, steps: u64) -> 
     cop0.advance(counts, steps).expect("the inputs are below 2^32 counts")
 }
 
+/// The access that Status asks for; of the original it is its pipeline's own.
+fn access_from_status(cop0: &rimjhodek::cop0::Cop0) -> rimjhodek::addr::Access {
+    use rimjhodek::cop0::reg;
+    rimjhodek::addr::Access::from_status(cop0.read(reg::STATUS)).expect("KSU is not 3")
+}
+
 macro_rules! side {
-    ($side:ident, $library:ident, $exception:ty, $advance:path) => {
+    ($side:ident, $library:ident, $exception:ty, $advance:path, $access:path) => {
         pub struct $side {
             cop0: $library::cop0::Cop0,
             tlb: $library::tlb::Tlb,
@@ -109,6 +116,12 @@ macro_rules! side {
             #[inline(always)]
             fn advance(&mut self, counts: u64, steps: u64) -> bool {
                 $advance(&mut self.cop0, counts, steps)
+            }
+
+            #[inline(always)]
+            fn access(&self) -> u64 {
+                let access = $access(&self.cop0);
+                access.mode as u64 | u64::from(access.wide) << 2 | u64::from(access.erl) << 3
             }
 
             #[inline(always)]
@@ -208,5 +221,11 @@ macro_rules! side {
     };
 }
 
-side!(Original, original, original::pipeline::Exception, advance_in_four);
-side!(Ours, rimjhodek, rimjhodek::exception::Exception, advance_in_one);
+side!(
+    Original,
+    original,
+    original::pipeline::Exception,
+    advance_in_four,
+    original::pipeline::access_mode
+);
+side!(Ours, rimjhodek, rimjhodek::exception::Exception, advance_in_one, access_from_status);
