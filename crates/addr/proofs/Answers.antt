@@ -24,10 +24,10 @@ use Rattle.addr.specs.declared.translate.TranslateAnswer.the-variants.{A
 use Rattle.addr.specs.Answers.{modeNumber, cachedNumber, errorNumber, toldAccess, toldSegment, toldTranslate}
 use Rattle.tlb.proofs.Answers.{faultOf}
 
-abbrev modeAt : ℕ → Mode
+abbrev pub modeAt : ℕ → Mode
 modeAt n = cond (eqb n 0) Kernel (cond (eqb n 1) Supervisor User)
 
-mode-undone : (m : Mode) → modeAt (modeNumber m) ≡ m
+pub mode-undone : (m : Mode) → modeAt (modeNumber m) ≡ m
 mode-undone Kernel = refl
 mode-undone Supervisor = refl
 mode-undone User = refl

@@ -22,12 +22,12 @@ use Rattle.addr.specs.declared.access.AccessAnswer.{AccessAnswer}
 use Rattle.addr.specs.declared.access.AccessAnswer.the-variants.{Of, Refused}
 use Rattle.addr.specs.declared.segments.Cached.the-variants.{No}
 use Rattle.addr.specs.declared.translate.Translation.{Translation}
-use Rattle.addr.specs.Answers.{modeNumber, toldAccess, toldTranslate}
+use Rattle.addr.specs.Answers.{toldAccess, toldTranslate}
 use Rattle.addr.specs.Access.{inMode, isKernelOf, accessOf, namesNone}
 use Rattle.addr.specs.Pipeline.{pipelineMode, widthBit, pipelineAccess, pipelineTold}
 use Rattle.addr.specs.Segments.{inside, segmentOf}
 use Rattle.addr.specs.Translate.{reached, translateAnswer}
-use Rattle.addr.proofs.Answers.{access-one, translate-one}
+use Rattle.addr.proofs.Answers.{modeAt, mode-undone, access-one, translate-one}
 use Rattle.addr.proofs.access.Access.from_status.Reads as from-status
 use Rattle.addr.proofs.translate.translate_via.Reads as translate-via
 
@@ -117,11 +117,6 @@ module _ (a : ℕ × Unit {0}) (r : AccessAnswer) (p : from-status.Post tt a r a
 abbrev pub resetHandler : ℕ
 resetHandler = 0xFFFF_FFFF_BFC0_0000
 
-kernel-numbered : (m : Mode) → modeNumber m ≡ 0 → m ≡ Kernel
-kernel-numbered Kernel e = refl
-kernel-numbered Supervisor e = absurd (omega (arith, e))
-kernel-numbered User e = absurd (omega (arith, e))
-
 -- a fetch by the kernel, whatever its width and ERL
 module _ (t : Tlb) (asid : ℕ) (store : Bool) where
   by-kernel : (wide erl : Bool)
@@ -136,7 +131,7 @@ module _ (t : Tlb) (asid : ℕ) (store : Bool) where
       → translateAnswer t resetHandler asid store a ≡ reached 0x1FC0_0000 No 32
   reset-handler-reached s erl a e =
       ap (λ (m : Mode). translateAnswer t resetHandler asid store (record { mode = m; wide = a .wide; erl = a .erl }))
-      (kernel-numbered (a .mode) (ap (λ (u : Told). getD (u .values) 0 1) (e ∙ kernel-by-erl s erl)))
+      (sym (mode-undone (a .mode)) ∙ ap (λ (u : Told). modeAt (getD (u .values) 0 0)) (e ∙ kernel-by-erl s erl))
       ∙ by-kernel (a .wide) (a .erl)
 
   -- the same of two calls, by their contracts: what Status asks for, and the fetch by it
