@@ -23,7 +23,7 @@ use Rattle.exception.specs.Taking.{takenOf, dispatchOf}
 use Rattle.tags.specs.Words.{tagLoOf, storedOf}
 use Rattle.cache.specs.Both.{loadTold, residentTold, storeTags}
 use Rattle.numbers.specs.Table.{all}
-use Rattle.numbers.specs.Translation.{p1, p2, p3}
+use Rattle.numbers.specs.Translation.{p1, p2, p3, q3}
 use Rattle.numbers.specs.Segments.{p4, p5, p6}
 use Rattle.numbers.specs.Modes.{q2}
 use Rattle.numbers.specs.Entries.{q1}
@@ -86,3 +86,7 @@ q1-holds = refl
 pub q2-holds : all q2 ≡ true
 unfolding isKernelOf accessOf unused archMask readAt mergedBits among wide writeMask fresh besides writeAt moved32 dmtc0Of
 q2-holds = refl
+
+pub q3-holds : all q3 ≡ true
+unfolding pairs
+q3-holds = refl

@@ -2,12 +2,12 @@
 use mathlib.Core.Path.{_≡_, ap, ap₂, sym, _∙_}
 use mathlib.Core.Bool.{Bool, true, false}
 use Prim.Native.Nat.{ℕ, zero, suc, _+_, _-_, _*_, _/_, _%_, _^_, _<_, _≤_}
-use native.Mathlib.Nat.{pow-suc, lt-of-lt-of-le, pow-le-pow-right}
+use native.Mathlib.Nat.{add-zero, pow-suc, lt-of-lt-of-le, pow-le-pow-right}
 use native.Mathlib.Omega.{arith}
-use lib.Bits.{or-lt, or-add-and, and-le-l}
-use lib.Pow.{shr-shr}
+use lib.Bits.{bitAnd, bitOr, or-lt, or-add-and, and-le-l, and-zero-r, and-mask, and-block, or-block, or-shifted}
 use mir.Val.{boolByte}
 use Rattle.bits.specs.Field.{fieldOf}
+use Rattle.bits.proofs.FieldLaws.{bit-lt}
 use Rattle.tlb.specs.Entries.{pairSizeOf, pageSizeOf}
 use Rattle.tlb.specs.Moves.{pairs}
 
@@ -31,33 +31,54 @@ pairs-lt (suc n) x = omega (arith, pow-suc 4 n, pairs-lt n (x / 4))
 pub pairs-small : (n x : ℕ) → n ≤ 6 → pairs n x < 4096
 pairs-small n x h = lt-of-lt-of-le (pairs-lt n x) (pow-le-pow-right {n = 4} (omega arith) h)
 
--- one pair more, from the top down: the pair at bit k of a mask
-pub pair-more : (n k mask : ℕ)
-    → pairs (suc n) (mask / 2 ^ k) ≡ pairs n (mask / 2 ^ (k + 2)) * 4 + 3 * fieldOf mask (k + 1) (k + 1)
-unfolding pairs
-pair-more n k mask =
-    let e : k + 1 + 1 - (k + 1) ≡ 1 = omega arith in
-    ap₂ (λ (a b : ℕ). pairs n a * 4 + 3 * b) (shr-shr mask k 2)
-    (ap (λ (x : ℕ). x % 2) (shr-shr mask k 1) ∙ ap (λ (m : ℕ). mask / 2 ^ (k + 1) % 2 ^ m) (sym e))
+-- 01 in each of n pairs
+abbrev lowers : ℕ → ℕ
+lowers zero = 0
+lowers (suc n) = lowers n * 4 + 1
 
--- the loop's turn: pair p - 1 joins those above it
-pub one-pair : (p mask out f : ℕ)
-    → 0 < p
-    → p ≤ 6
-    → out ≡ pairs (6 - p) (mask / 2 ^ (13 + 2 * p))
-    → f ≡ fieldOf mask (14 + 2 * (p - 1)) (14 + 2 * (p - 1))
-    → out * 4 + 3 * f ≡ pairs (6 - (p - 1)) (mask / 2 ^ (13 + 2 * (p - 1)))
-one-pair p mask out f h₁ h₂ eo ef =
-    let k : ℕ = 13 + 2 * (p - 1) in
-    let e₁ : 6 - (p - 1) ≡ suc (6 - p) = omega arith in
-    let e₂ : k + 2 ≡ 13 + 2 * p = omega arith in
-    let e₃ : k + 1 ≡ 14 + 2 * (p - 1) = omega arith in
-    sym
-    (ap (λ (m : ℕ). pairs m (mask / 2 ^ k)) e₁
-    ∙ pair-more (6 - p) k mask
-    ∙ ap₂ (λ (a b : ℕ). a * 4 + 3 * b)
-    (ap (λ (j : ℕ). pairs (6 - p) (mask / 2 ^ j)) e₂ ∙ sym eo)
-    (ap (λ (j : ℕ). fieldOf mask j j) e₃ ∙ sym ef))
+-- the upper bits of x's lowest n pairs, each at the place of its lower bit
+abbrev dropped : ℕ → ℕ → ℕ
+dropped n x = bitAnd (x / 2) (lowers n)
+
+dropped-more : (n x : ℕ) → dropped (suc n) x ≡ dropped n (x / 4) * 2 ^ 2 + fieldOf x 1 1
+dropped-more n x =
+    let parts : x / 2 ≡ x / 4 / 2 * 2 ^ 2 + x / 2 % 2 ^ 2 = omega arith in
+    ap (λ (y : ℕ). bitAnd y (lowers (suc n))) parts
+    ∙ and-block 2 (x / 4 / 2) (lowers n) (x / 2 % 2 ^ 2) 1 (omega arith) (omega arith)
+    ∙ omega (arith, and-mask (x / 2 % 2 ^ 2) 1)
+
+-- at both places they are the pairs, however many
+pairs-joined : (n x : ℕ) → bitOr (dropped n x * 2) (dropped n x) ≡ pairs n x
+unfolding pairs
+pairs-joined zero x = ap (λ (y : ℕ). bitOr (y * 2) y) (and-zero-r (x / 2))
+pairs-joined (suc n) x =
+    let d : ℕ = dropped n (x / 4) in
+    let f : ℕ = fieldOf x 1 1 in
+    let up : dropped (suc n) x * 2 ≡ d * 2 * 2 ^ 2 + f * 2 = omega (arith, dropped-more n x) in
+    ap₂ bitOr up (dropped-more n x)
+    ∙ or-block 2 (d * 2) d (f * 2) f (omega (arith, bit-lt x 1)) (omega (arith, bit-lt x 1))
+    ∙ omega (arith, pairs-joined n (x / 4), or-shifted f 1 f (bit-lt x 1))
+
+-- a page mask has its pairs from bit 13 up: of six, the upper bits are those under 0155_4000
+abbrev upper : ℕ → ℕ → ℕ
+upper n mask = bitAnd mask (lowers n * 2 ^ 14)
+
+upper-is : (n mask : ℕ) → upper n mask ≡ dropped n (mask / 2 ^ 13) * 2 ^ 14
+upper-is n mask =
+    let parts : mask ≡ mask / 2 ^ 13 / 2 * 2 ^ 14 + mask % 2 ^ 14 = omega arith in
+    ap₂ bitAnd parts (sym (add-zero (lowers n * 2 ^ 14)))
+    ∙ and-block 14 (mask / 2 ^ 13 / 2) (lowers n) (mask % 2 ^ 14) 0 (omega arith) (omega arith)
+    ∙ omega (arith, and-zero-r (mask % 2 ^ 14))
+
+-- joined with themselves moved down one place they are the pairs
+pub mask-joined : (n mask : ℕ) → bitOr (upper n mask) (upper n mask / 2) ≡ pairs n (mask / 2 ^ 13) * 2 ^ 13
+mask-joined n mask =
+    let d : ℕ = dropped n (mask / 2 ^ 13) in
+    let above : upper n mask ≡ d * 2 * 2 ^ 13 + 0 = omega (arith, upper-is n mask) in
+    let below : upper n mask / 2 ≡ d * 2 ^ 13 + 0 = omega (arith, upper-is n mask) in
+    ap₂ bitOr above below
+    ∙ or-block 13 (d * 2) d 0 0 (omega arith) (omega arith)
+    ∙ omega (arith, pairs-joined n (mask / 2 ^ 13))
 
 -- a flag as a number
 pub bool-lt : (b : Bool) → boolByte b < 2

@@ -46,18 +46,13 @@ impl Tlb {
 }
 
 // Six pairs of bits from bit 13 up: each is stored as 11 where its upper bit was written, and as 00 otherwise, as the hardware
-// was measured to do with masks that table 5-7 lacks.
+// was measured to do with masks that table 5-7 lacks. The upper bits are those under 0155_4000, and each of them moved down one
+// place is its pair's lower bit.
 fn canonical_page_mask(mask: u64) -> u32
     ensures { λ r. ⌜ r ≡ canonicalOf mask ⌝ }
 {
-    let mut out: u32 = 0;
-    let mut pair: u32 = 6;
-    while pair > 0 {
-        pair -= 1;
-        let bit = 14 + 2 * pair;
-        out = out * 4 + 3 * bits::field(mask, bit, bit) as u32;
-    }
-    out * 8192
+    let upper = (mask & 0x0155_4000) as u32;
+    upper | (upper >> 1)
 }
 
 // A half of an entry, as EntryLo0 or EntryLo1 has it (figure 5-10).
