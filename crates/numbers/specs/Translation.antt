@@ -1,5 +1,5 @@
--- P1, P2 and P3: page masks and sizes; and Q3, the number of document 02's third request: of a page mask the bits under 0155_4000 count, and
--- each makes its pair.
+-- P1, P2 and P3: page masks and sizes; and Q3, the number of document 02's third request: of a page mask the bits under 0155_4000
+-- count, and each makes its pair.
 use mathlib.Core.Bool.{cond}
 use mathlib.Core.List.{List, [], _∷_}
 use Prim.Native.Nat.{ℕ, zero, suc, _+_, _^_}
