@@ -1,8 +1,8 @@
 /* Rimjhodek: the VR4300's system control, proved. The exported functions of Rattle's crate `rimjhodek`, in
  * librimjhodek.a, which `rt staticlib rimjhodek` writes for x86-64 Linux.
  *
- * State is plain words that the caller owns and lends: 38 for a register file, 132 for a TLB, one for the link bit, a
- * cache's lines and its tags. Nothing is kept between calls, so that any thread may call with state of its own, and a copy of the words is a
+ * State is plain words that the caller owns and lends: 38 for a register file, 132 for a TLB, a cache's lines and its
+ * tags. Nothing is kept between calls, so that any thread may call with state of its own, and a copy of the words is a
  * copy of the state. A lent pointer must not be null, and two that are lent to one call must not overlap. Bits that a
  * word's field does not have are ignored, and are 0 in all words that these functions made. What each function answers
  * is its contract in crates/rimjhodek/src. */
@@ -271,7 +271,7 @@ enum {
 RimjhodekTaken rimjhodek_dispatch(uint64_t cop0[RIMJHODEK_COP0_WORDS], RimjhodekExc exc, uint64_t pc,
                                   bool in_delay_slot, uint64_t bad_vaddr);
 RimjhodekTaken rimjhodek_nmi(uint64_t cop0[RIMJHODEK_COP0_WORDS], uint64_t pc);
-/* Where to resume. The link bit is not lent here, and stays: a session returns by rimjhodek_session_eret. */
+/* Where to resume. */
 uint64_t rimjhodek_eret(uint64_t cop0[RIMJHODEK_COP0_WORDS]);
 RimjhodekNumber rimjhodek_vector(uint64_t status, uint8_t kind);
 RimjhodekNumber rimjhodek_exc_code_of(RimjhodekExc exc);
@@ -280,16 +280,8 @@ RimjhodekFlag rimjhodek_writes_bad_vaddr(RimjhodekExc exc);
 
 /* ---- A session --------------------------------------------------------------------------------------------------- */
 
-/* A member of a room: a register file, a TLB, and the link bit, bit 0 of a word. Each operation of a session is a function
- * above or one of these; rimjhodek_eret is none. At its start the registers and the TLB are fresh and the bit is off. */
-void rimjhodek_session_new(uint64_t cop0[RIMJHODEK_COP0_WORDS], uint64_t tlb[RIMJHODEK_TLB_WORDS], uint64_t *link);
-/* ERET: where to resume, and the link bit is cleared. */
-uint64_t rimjhodek_session_eret(uint64_t cop0[RIMJHODEK_COP0_WORDS], uint64_t *link);
-/* The link bit: a host's LL sets it once its load is done, and its SC stores where it is on, and leaves it. Nothing but a
- * return clears it, and a host that must end a link without one. */
-void rimjhodek_set_link(uint64_t *link);
-void rimjhodek_clear_link(uint64_t *link);
-bool rimjhodek_link(const uint64_t *link);
+/* A member of a room at its start: fresh registers and a fresh TLB. Each operation of a session is a function above. */
+void rimjhodek_session_new(uint64_t cop0[RIMJHODEK_COP0_WORDS], uint64_t tlb[RIMJHODEK_TLB_WORDS]);
 
 /* ---- The caches -------------------------------------------------------------------------------------------------- */
 

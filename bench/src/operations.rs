@@ -97,13 +97,6 @@ pub static OPERATIONS: &[Operation] = &[
         refill_eret,
         ["rimjhodek_dispatch", "rimjhodek_eret"]
     ),
-    row!(
-        "refill-session-eret",
-        "the same, and no link after it",
-        random,
-        refill_session_eret,
-        ["rimjhodek_dispatch", "rimjhodek_session_eret"]
-    ),
     row!("write-entry", "write each TLB entry", |i, _| i, write_entry, ["rimjhodek_write_entry"]),
     row!(
         "itlb-probe",
@@ -280,11 +273,6 @@ fn translate<S: Side>(machine: &mut S, input: u64) -> u64 {
 fn refill_eret<S: Side>(machine: &mut S, input: u64) -> u64 {
     let vector = machine.refill(input, input.rotate_left(32));
     vector ^ machine.eret()
-}
-
-fn refill_session_eret<S: Side>(machine: &mut S, input: u64) -> u64 {
-    let vector = machine.refill(input, input.rotate_left(32));
-    vector ^ machine.session_eret()
 }
 
 fn write_entry<S: Side>(machine: &mut S, input: u64) -> u64 {

@@ -77,7 +77,6 @@ fn bytes<const N: usize>(rng: &mut Rng) -> [u8; N] {
 /// All that an operation can have changed, as the operations tell it.
 pub fn digest<S: Side>(machine: &mut S) -> u64 {
     let mut sum = u64::from(machine.interrupt_pending());
-    sum = fold(sum, machine.link());
     for n in 0..32 {
         sum = fold(sum, machine.dmfc0(n));
     }

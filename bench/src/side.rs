@@ -21,8 +21,6 @@ pub trait Side {
     fn itlb_fill(&mut self, vaddr: u64);
     fn refill(&mut self, pc: u64, bad_vaddr: u64) -> u64;
     fn eret(&mut self) -> u64;
-    fn session_eret(&mut self) -> u64;
-    fn link(&self) -> u64;
     fn d_hits(&self, addr: u32) -> bool;
     fn d_install(&mut self, addr: u32, data: [u8; 16]);
     fn d_read(&self, addr: u32, len: usize) -> u64;
@@ -60,26 +58,11 @@ fn access_from_status(cop0: &rimjhodek::cop0::Cop0) -> rimjhodek::addr::Access {
     rimjhodek::addr::Access::from_status(cop0.read(reg::STATUS)).expect("KSU is not 3")
 }
 
-/// An ERET of the original's pipeline, which has the link bit beside the registers.
-#[inline(always)]
-fn eret_and_no_link(cop0: &mut original::cop0::Cop0, link: &mut u64) -> u64 {
-    let pc = original::exception::eret(cop0);
-    *link = 0;
-    pc
-}
-
-/// The session's, as the binding's `Session` calls it.
-#[inline(always)]
-fn eret_of_session(cop0: &mut rimjhodek::cop0::Cop0, link: &mut u64) -> u64 {
-    rimjhodek::ffi::rimjhodek_session_eret(&mut cop0.words, link)
-}
-
 macro_rules! side {
-    ($side:ident, $library:ident, $exception:ty, $advance:path, $access:path, $eret:path) => {
+    ($side:ident, $library:ident, $exception:ty, $advance:path, $access:path) => {
         pub struct $side {
             cop0: $library::cop0::Cop0,
             tlb: $library::tlb::Tlb,
-            link: u64,
             dcache: $library::cache::Dcache,
             icache: $library::cache::Icache,
             // Operands that an emulator has from its state. They are held here and not written into the calls, so that
@@ -96,7 +79,6 @@ macro_rules! side {
                 Self {
                     cop0: $library::cop0::Cop0::new(),
                     tlb: $library::tlb::Tlb::new(),
-                    link: 1,
                     dcache: $library::cache::Dcache::new(),
                     icache: $library::cache::Icache::new(),
                     asid: ASID,
@@ -197,16 +179,6 @@ macro_rules! side {
             }
 
             #[inline(always)]
-            fn session_eret(&mut self) -> u64 {
-                $eret(&mut self.cop0, &mut self.link)
-            }
-
-            #[inline(always)]
-            fn link(&self) -> u64 {
-                self.link
-            }
-
-            #[inline(always)]
             fn d_hits(&self, addr: u32) -> bool {
                 self.dcache.hits(addr)
             }
@@ -254,14 +226,6 @@ side!(
     original,
     original::pipeline::Exception,
     advance_in_four,
-    original::pipeline::access_mode,
-    eret_and_no_link
+    original::pipeline::access_mode
 );
-side!(
-    Ours,
-    rimjhodek,
-    rimjhodek::exception::Exception,
-    advance_in_one,
-    access_from_status,
-    eret_of_session
-);
+side!(Ours, rimjhodek, rimjhodek::exception::Exception, advance_in_one, access_from_status);

@@ -12,12 +12,11 @@ enum { INPUTS = 4000, BETWEEN_SAVES = 64 };
 typedef struct Member {
     uint64_t cop0[RIMJHODEK_COP0_WORDS];
     uint64_t tlb[RIMJHODEK_TLB_WORDS];
-    uint64_t link;
 } Member;
 
 /* An input that the room agrees on: what is done, and with which numbers. */
 typedef struct Input {
-    enum { MOVE, ADVANCE, MAP, ACCESS, RETURN, LOCK, STORE, KINDS } kind;
+    enum { MOVE, ADVANCE, MAP, ACCESS, RETURN, KINDS } kind;
     uint64_t a, b;
 } Input;
 
@@ -62,15 +61,6 @@ static uint64_t touch(Member *m, uint64_t vaddr, bool store) {
     return (uint64_t)found.entry << 32 | found.addr;
 }
 
-/* LL: the link is set where the load is done. A handler starts in the upper half, where no entry and address is. */
-static uint64_t lock(Member *m, uint64_t vaddr) {
-    uint64_t found = touch(m, vaddr, false);
-    if (found >> 63 == 0) {
-        rimjhodek_set_link(&m->link);
-    }
-    return found;
-}
-
 /* One input, with its answer. */
 static uint64_t play(Member *m, Input in, uint64_t pieces) {
     switch (in.kind) {
@@ -87,12 +77,8 @@ static uint64_t play(Member *m, Input in, uint64_t pieces) {
             return 0;
         case ACCESS:
             return touch(m, in.a % 0x40000, in.b & 1);
-        case RETURN:
-            return rimjhodek_session_eret(m->cop0, &m->link);
-        case LOCK:
-            return lock(m, in.a % 0x40000);
-        default: /* SC: it stores where no return has ended the link */
-            return rimjhodek_link(&m->link) ? touch(m, in.a % 0x40000, true) : 0;
+        default:
+            return rimjhodek_eret(m->cop0);
     }
 }
 
@@ -106,7 +92,7 @@ int main(void) {
     static uint64_t answers[INPUTS];
     uint64_t seed = 0x4300, played = 0, rolled = 0;
     Member whole, cut, save;
-    rimjhodek_session_new(whole.cop0, whole.tlb, &whole.link);
+    rimjhodek_session_new(whole.cop0, whole.tlb);
     cut = save = whole;
     for (int i = 0; i < INPUTS; i++) {
         inputs[i] = input(&seed);

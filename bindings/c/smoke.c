@@ -131,8 +131,8 @@ static void timer(void) {
 }
 
 static void translation(void) {
-    uint64_t cop0[RIMJHODEK_COP0_WORDS], tlb[RIMJHODEK_TLB_WORDS], link = UINT64_MAX;
-    rimjhodek_session_new(cop0, tlb, &link);
+    uint64_t cop0[RIMJHODEK_COP0_WORDS], tlb[RIMJHODEK_TLB_WORDS];
+    rimjhodek_session_new(cop0, tlb);
     IS(tlb[RIMJHODEK_WORD_SLOT0], 32);
     rimjhodek_set_hardware(cop0, RIMJHODEK_ENTRY_HI, 0x12000 | 7);
     rimjhodek_set_hardware(cop0, RIMJHODEK_ENTRY_LO0, (uint64_t)0xABCDE << 6 | 2 << 3 | 6);
@@ -208,29 +208,6 @@ static void exceptions(void) {
     IS(rimjhodek_nmi(cop0, 0x1000).vector, 0xFFFFFFFFBFC00000);
 }
 
-static void session(void) {
-    uint64_t cop0[RIMJHODEK_COP0_WORDS], tlb[RIMJHODEK_TLB_WORDS], link = UINT64_MAX;
-    IS(rimjhodek_link(&link), 1);
-    rimjhodek_session_new(cop0, tlb, &link);
-    IS(link, 0);
-    IS(rimjhodek_link(&link), 0);
-    link = UINT64_MAX - 1;
-    IS(rimjhodek_link(&link), 0);
-    rimjhodek_set_link(&link);
-    IS(link, 1);
-    IS(rimjhodek_link(&link), 1);
-    RimjhodekExc interrupt = {RIMJHODEK_EXCEPTION_INTERRUPT, false, false, 0};
-    rimjhodek_set_hardware(cop0, RIMJHODEK_STATUS, 0);
-    IS(rimjhodek_dispatch(cop0, interrupt, 0x1000, false, 0).refused, 0);
-    IS(rimjhodek_link(&link), 1);
-    IS(rimjhodek_session_eret(cop0, &link), 0x1000);
-    IS(cop0[RIMJHODEK_STATUS], 0);
-    IS(link, 0);
-    link = UINT64_MAX;
-    rimjhodek_clear_link(&link);
-    IS(link, 0);
-}
-
 /* A cache's parts with their lengths. */
 #define LINES lines, sizeof lines
 #define TAGS tags, RIMJHODEK_CACHE_TAGS
@@ -288,7 +265,6 @@ int main(void) {
     timer();
     translation();
     exceptions();
-    session();
     data_cache();
     instruction_cache();
     printf("C: %d checks, %d failed\n", checks, failures);

@@ -23,21 +23,12 @@ fn main() {
     fs::write(out.join("pipeline.rs"), pipeline(&find(&folder, "pipeline"))).unwrap();
 }
 
-/// What is used of the original's pipeline: the exceptions, how it makes an access of Status, what
-/// it does of an ERET, and all lines that have to do with the link bit.
+/// What is used of the original's pipeline: the exceptions, and how it makes an access of Status.
 fn pipeline(file: &Path) -> String {
     let exception = cut(file, "pub enum Exception {");
     let access_mode = cut(file, "    fn access_mode(&self) -> crate::addr::Access {");
     let erl = cut(file, "    fn erl(&self) -> bool {");
-    let eret = cut(file, "                    if matches!(e.cop0, Some(Cop0Access::Eret)) {");
-    let text = fs::read_to_string(file).unwrap();
-    let code = text.lines().map(str::trim).filter(|line| !line.starts_with("//"));
-    let link_lines: Vec<&str> = code.filter(|line| line.contains("ll_bit")).collect();
-    format!(
-        "{exception}\nimpl Pipeline<'_> {{\n{access_mode}\n{erl}}}\n\
-         impl Returning<'_> {{\nfn run(&mut self, e: &Executed, next_pc: &mut u64) {{\n{eret}}}\n}}\n\
-         pub const LINK_LINES: &[&str] = &{link_lines:?};\n"
-    )
+    format!("{exception}\nimpl Pipeline<'_> {{\n{access_mode}\n{erl}}}\n")
 }
 
 /// The folder that holds the original. A relative name counts from the repository's root.

@@ -66,10 +66,6 @@ pub fn micro(slots: &[Option<u64>], next: u64, shutdown: bool) -> String {
     slots.fold(Line::new("itlb"), Line::number).number(next).flag(shutdown).0
 }
 
-pub fn link(link: bool) -> String {
-    Line::new("link").flag(link).0
-}
-
 pub fn entry(number: u64, entry: Entry) -> String {
     let tag = Line::new("entry").number(number).number(entry.page_mask).number(entry.vpn2);
     let tag = tag.number(entry.asid).flag(entry.global).number(entry.region);

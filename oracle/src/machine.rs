@@ -3,7 +3,6 @@
 use original::addr::Access;
 use original::cache::{Dcache, Icache};
 use original::cop0::{reg, Cop0};
-use original::exception;
 use original::tlb::{Tlb, JTLB_ENTRIES};
 
 use crate::access;
@@ -34,8 +33,6 @@ impl Refusal {
 pub struct Machine {
     pub cop0: Cop0,
     pub tlb: Tlb,
-    /// The link bit, which the original keeps in its pipeline.
-    pub link: bool,
     pub dcache: Dcache,
     pub icache: Icache,
 }
@@ -48,13 +45,7 @@ impl Default for Machine {
 
 impl Machine {
     pub fn new() -> Self {
-        Self {
-            cop0: Cop0::new(),
-            tlb: Tlb::new(),
-            link: false,
-            dcache: Dcache::new(),
-            icache: Icache::new(),
-        }
+        Self { cop0: Cop0::new(), tlb: Tlb::new(), dcache: Dcache::new(), icache: Icache::new() }
     }
 
     /// The scope's clock advance, which the original leaves to its scheduler: moves the clock,
@@ -72,14 +63,6 @@ impl Machine {
         Ok(edge)
     }
 
-    /// ERET as the original's pipeline has it: its `eret`, and no link. A test holds it to the very
-    /// lines (pipeline.rs, 2300 to 2307).
-    pub fn eret(&mut self) -> u64 {
-        let pc = exception::eret(&mut self.cop0);
-        self.link = false;
-        pc
-    }
-
     /// The access that Status asks for; the original leaves it to its pipeline.
     pub fn access(&self) -> Result<Access, Refusal> {
         access::asked_for(self.cop0.read(reg::STATUS))
@@ -91,12 +74,10 @@ impl Machine {
         answers::entry(number % JTLB_ENTRIES as u64, entry)
     }
 
-    /// The answer to `state`: the registers as stored, the clock, the micro-TLB, the link bit, all
-    /// entries.
+    /// The answer to `state`: the registers as stored, the clock, the micro-TLB, all entries.
     pub fn state(&self) -> String {
         let entries = (0..JTLB_ENTRIES as u64).map(|number| self.entry(number));
-        let parts = [self.micro_line(), answers::link(self.link)];
-        let lines = self.register_lines().into_iter().chain(parts).chain(entries);
+        let lines = self.register_lines().into_iter().chain([self.micro_line()]).chain(entries);
         lines.collect::<Vec<String>>().join("\n")
     }
 
@@ -128,7 +109,6 @@ impl Machine {
 #[cfg(test)]
 mod tests {
     use original::addr::Mode;
-    use original::pipeline;
 
     use super::*;
 
@@ -136,7 +116,7 @@ mod tests {
     fn fresh_state() {
         let state = Machine::new().state();
         let lines: Vec<&str> = state.split('\n').collect();
-        assert_eq!(lines.len(), 36);
+        assert_eq!(lines.len(), 35);
         let regs: Vec<&str> = lines[0].split(' ').collect();
         assert_eq!((regs.len(), regs[0]), (33, "regs"));
         assert_eq!(regs[1 + usize::from(reg::STATUS)], "0000000000400004");
@@ -144,9 +124,8 @@ mod tests {
         assert!(lines[1].starts_with("clock 0000000000000000 "));
         assert!(lines[1].ends_with(ec_and_latch));
         assert_eq!(lines[2], "itlb 0000000000000020 0000000000000020 0000000000000000 0");
-        assert_eq!(lines[3], "link 0");
         let last = "entry 000000000000001f 0000000000000000 000000fffffc0000 0000000000000000 0 ";
-        assert!(lines[35].starts_with(last));
+        assert!(lines[34].starts_with(last));
     }
 
     /// Status as it was written is asked.
@@ -176,39 +155,6 @@ mod tests {
         machine.cop0.mtc0(reg::COUNT, 7);
         assert_eq!(machine.advance(0xFFFF_FFFF, 0), Ok(false));
         assert_eq!(machine.advance(1, 0), Ok(true));
-    }
-
-    /// An ERET is what the original's own lines make of it, under each bit of Status and each EXL and
-    /// ERL, with the link bit on and off.
-    #[test]
-    fn eret_is_the_original_s() {
-        let statuses = (0..64).map(|bit| 1 << bit).chain([0, 0b110]);
-        for (status, link) in statuses.flat_map(|status| [(status, false), (status, true)]) {
-            let mut machine = Machine { link, ..Machine::new() };
-            machine.cop0.set_hardware(reg::STATUS, status);
-            machine.cop0.dmtc0(reg::EPC, 0x1234);
-            machine.cop0.dmtc0(reg::ERROR_EPC, 0x5678);
-            let mut cop0 = machine.cop0.clone();
-            let (pc, ll_bit) = pipeline::eret(&mut cop0, link);
-            assert_eq!((machine.eret(), machine.link), (pc, ll_bit));
-            assert_eq!(machine.cop0, cop0);
-        }
-    }
-
-    /// In the original nothing else clears the link bit, and nothing but LL sets it: its pipeline has
-    /// these lines about it, and the field, which starts off.
-    #[test]
-    fn the_original_s_link_bit() {
-        let lines = [
-            "ll_bit: bool,",
-            "ll_bit: false,",
-            "pub const fn ll_bit(&self) -> bool {",
-            "self.ll_bit",
-            "self.ll_bit = true;",
-            "let stored = self.ll_bit;",
-            "self.ll_bit = false;",
-        ];
-        assert_eq!(pipeline::LINK_LINES, lines);
     }
 
     #[test]

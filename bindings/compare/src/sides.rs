@@ -5,7 +5,6 @@ use original::cache::{DCACHE_LINE, ICACHE_LINE};
 use original::cop0::reg;
 use rimjhodek::addr::{translate_via, Access};
 use rimjhodek::ffi::NO_ENTRY;
-use rimjhodek::Session;
 
 use crate::difference::Unequal;
 use crate::words;
@@ -26,8 +25,6 @@ impl From<Unequal> for End {
 pub struct Sides {
     original: oracle::machine::Machine,
     binding: bound::machine::Machine,
-    /// The binding's link bit, which its [`Session`] moves.
-    link: u64,
     /// What was compared last: where both sides still have it, they are the same, and the original's
     /// private fields need not be read again.
     registers: Option<(original::cop0::Cop0, rimjhodek::cop0::Cop0)>,
@@ -41,7 +38,6 @@ impl Sides {
         Self {
             original: oracle::machine::Machine::new(),
             binding: bound::machine::Machine::new(),
-            link: Session::new().link,
             registers: None,
             table: None,
             touched_caches: false,
@@ -81,10 +77,6 @@ impl Sides {
             "access" => self.access_in_one(&answer)?,
             "lookup" | "translate_via" => self.entry_by_itself(name, operands, &answer)?,
             "dispatch" => kinds_of_exception(operands)?,
-            "new" => self.link = Session::new().link,
-            "eret" | "set_link" | "clear_link" | "link" => {
-                self.in_session(before, name, &answer)?;
-            }
             _ => (),
         }
         Ok(answer)
@@ -106,34 +98,6 @@ impl Sides {
         Unequal::unless_same("one advance", answer.into(), edge)?;
         let what = "the registers after one advance";
         Unequal::unless_same_words(what, &self.binding.cop0.words, &cop0.words)
-    }
-
-    /// The driver keeps the link bit itself, as the original's pipeline does; the binding has it in its
-    /// `Session`, which must say and leave the same.
-    fn in_session(
-        &mut self,
-        before: rimjhodek::cop0::Cop0,
-        name: &str,
-        answer: &str,
-    ) -> Result<(), Unequal> {
-        let mut session = Session { cop0: before, tlb: self.binding.tlb.clone(), link: self.link };
-        let told = match name {
-            "eret" => format!("= {:016x}", session.eret()),
-            "link" => format!("= {}", u8::from(session.link())),
-            "set_link" => {
-                session.set_link();
-                "ok".into()
-            }
-            _ => {
-                session.clear_link();
-                "ok".into()
-            }
-        };
-        self.link = session.link;
-        Unequal::unless_same("the session's answer", answer.into(), told)?;
-        let what = "the session's registers";
-        Unequal::unless_same_words(what, &self.binding.cop0.words, &session.cop0.words)?;
-        Unequal::unless_same_words("the session's table", &self.binding.tlb.words, &session.tlb.words)
     }
 
     /// The driver reads the access off Status itself; the binding has a call for that.
@@ -179,10 +143,9 @@ impl Sides {
         }
     }
 
-    /// All words of the registers and of the table, and the link bit's.
+    /// All words of the registers and of the table.
     fn compare_words(&mut self) -> Result<(), Unequal> {
-        let Self { original, binding, link, registers, table, .. } = self;
-        Unequal::unless_same_words("the link bit", &[original.link.into()], &[*link])?;
+        let Self { original, binding, registers, table, .. } = self;
         let same = |(a, b): &(_, _)| *a == original.cop0 && *b == binding.cop0;
         if !registers.as_ref().is_some_and(same) {
             let expected = words::registers(original);

@@ -219,9 +219,7 @@ fn take(cop0: &mut Cop0, exc: Exc, pc: u64, in_delay_slot: bool, bad_vaddr: u64)
     Dispatch::of(ffi::rimjhodek_dispatch(&mut cop0.words, exc, pc, in_delay_slot, bad_vaddr))
 }
 
-/// `ERET`: says where to resume. The link bit is the caller's to clear; [`Session::eret`] does so.
-///
-/// [`Session::eret`]: crate::Session::eret
+/// `ERET`: says where to resume. The link bit is the caller's to clear.
 #[must_use]
 #[inline(always)]
 pub fn eret(cop0: &mut Cop0) -> u64 {

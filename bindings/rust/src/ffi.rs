@@ -1,10 +1,10 @@
 //! The exported functions of Rattle's crate `rimjhodek`, and what crosses. All of this crate's
 //! `unsafe` is here.
 //!
-//! State is words that the caller owns and lends: 38 for a register file, 132 for a TLB, one for the
-//! link bit, a cache's lines and its tags. Enums cross as numbers. An answer is a number, or a struct
-//! whose first field is the refusal's number, or 0. Each function is safe to call with any values;
-//! what it answers is its contract in `crates/rimjhodek/src`.
+//! State is words that the caller owns and lends: 38 for a register file, 132 for a TLB, a cache's
+//! lines and its tags. Enums cross as numbers. An answer is a number, or a struct whose first field
+//! is the refusal's number, or 0. Each function is safe to call with any values; what it answers is
+//! its contract in `crates/rimjhodek/src`.
 
 mod caches;
 mod structs;
@@ -93,13 +93,5 @@ unsafe extern "C" {
     pub safe fn rimjhodek_icache_hit(tags: &[u32; 512], addr: u32) -> bool;
 
     // A session.
-    pub safe fn rimjhodek_session_new(
-        cop0: &mut [u64; 38],
-        tlb: &mut [u64; 132],
-        link: &mut u64,
-    );
-    pub safe fn rimjhodek_session_eret(cop0: &mut [u64; 38], link: &mut u64) -> u64;
-    pub safe fn rimjhodek_set_link(link: &mut u64);
-    pub safe fn rimjhodek_clear_link(link: &mut u64);
-    pub safe fn rimjhodek_link(link: &u64) -> bool;
+    pub safe fn rimjhodek_session_new(cop0: &mut [u64; 38], tlb: &mut [u64; 132]);
 }

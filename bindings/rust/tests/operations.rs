@@ -1,6 +1,5 @@
 //! Each operation of the safe API, as an emulator calls it.
 
-use rimjhodek::Session;
 use rimjhodek::addr::{self, Access, Cached, Mode, Physical, TranslateError};
 use rimjhodek::cache::{DCACHE_LINES, Dcache, ICACHE_LINES, Icache, Writeback};
 use rimjhodek::cop0::{Cop0, reg};
@@ -207,48 +206,6 @@ fn an_exception_is_taken_and_returned_from() {
     assert_eq!(reset.vector, exception::vector(0, VectorKind::Reset));
     assert_eq!(cop0.read(reg::STATUS), 0x0050_0004);
     assert_eq!(exception::eret(&mut cop0), 0x1000);
-}
-
-/// A lock: LL sets the link bit, and SC stores where it is on. An interrupt between the two leaves
-/// it, its return takes it away, and the game tries again.
-#[test]
-fn a_lock_is_taken_and_lost() {
-    let mut member = Session::new();
-    assert!(!member.link());
-    member.cop0.mtc0(reg::STATUS, 0x8001);
-    member.cop0.mtc0(reg::COMPARE, 5);
-    member.set_link();
-    assert_eq!(member.cop0.advance(5, 1), Ok(true));
-    assert!(member.link() && member.cop0.interrupt_pending());
-    exception::dispatch(&mut member.cop0, Exception::Interrupt, 0x8000_1000, false, 0);
-    assert!(member.link());
-    // A return of the registers alone leaves the bit; the session's ends it.
-    let mut apart = member.clone();
-    assert_eq!(exception::eret(&mut apart.cop0), 0x8000_1000);
-    assert!(apart.link());
-    assert_eq!(member.eret(), 0x8000_1000);
-    assert!(!member.link());
-    assert_eq!(member.cop0, apart.cop0);
-
-    member.set_link();
-    assert!(member.link());
-    member.set_link();
-    assert!(member.link());
-    member.clear_link();
-    assert!(!member.link());
-}
-
-/// A return ends the link whichever level it leaves, and where there is none to leave.
-#[test]
-fn every_return_ends_the_link() {
-    for status in [0, 0b010, 0b100, 0b110] {
-        let mut member = Session::new();
-        member.cop0.set_hardware(reg::STATUS, status);
-        member.set_link();
-        let mut cop0 = member.cop0.clone();
-        assert_eq!(member.eret(), exception::eret(&mut cop0));
-        assert_eq!(member, Session { cop0, ..Session::new() });
-    }
 }
 
 #[test]

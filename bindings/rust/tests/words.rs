@@ -1,7 +1,6 @@
 //! State is words: all of it is in them, they are compared as they are, and a copy goes on as what
 //! it was copied from.
 
-use rimjhodek::Session;
 use rimjhodek::cop0::{self, Cop0, reg};
 use rimjhodek::exception::{self, Exception};
 use rimjhodek::ffi;
@@ -18,13 +17,11 @@ impl Mixed {
 }
 
 #[test]
-fn a_session_is_fresh_registers_a_fresh_table_and_no_link() {
-    let (mut cop0, mut tlb, mut link) = ([u64::MAX; 38], [u64::MAX; 132], u64::MAX);
-    ffi::rimjhodek_session_new(&mut cop0, &mut tlb, &mut link);
+fn a_session_is_fresh_registers_and_a_fresh_table() {
+    let (mut cop0, mut tlb) = ([u64::MAX; 38], [u64::MAX; 132]);
+    ffi::rimjhodek_session_new(&mut cop0, &mut tlb);
     assert_eq!(cop0, Cop0::new().words);
     assert_eq!(tlb, Tlb::new().words);
-    assert_eq!(link, 0);
-    assert_eq!(Session::new(), Session { cop0: Cop0 { words: cop0 }, tlb: Tlb { words: tlb }, link });
     let mut registers = [u64::MAX; 38];
     ffi::rimjhodek_cop0_new(&mut registers);
     assert_eq!(registers, cop0);
@@ -33,58 +30,63 @@ fn a_session_is_fresh_registers_a_fresh_table_and_no_link() {
     assert_eq!(table, tlb);
 }
 
-/// Some operation of a session, as a number decides.
-fn act(member: &mut Session, number: u64) {
-    let n = (number >> 8) as u8;
-    let vaddr = number >> 16 & 0x3_FFFF;
-    match number % 10 {
-        0 | 1 => member.cop0.dmtc0(n, number.rotate_left(17)),
-        2 => member.tlb.write_entry(n.into(), &member.cop0),
-        3 => drop(member.cop0.advance(number >> 40, number >> 50)),
-        4 => drop(member.tlb.lookup(vaddr, n, false)),
-        5 => member.tlb.itlb_fill(vaddr, n),
-        6 => drop(exception::dispatch(&mut member.cop0, Exception::Trap, vaddr, false, 0)),
-        7 => member.set_link(),
-        8 => member.clear_link(),
-        _ => drop(member.eret()),
-    }
+/// A member of a room: both parts.
+#[derive(Clone, Debug, Default, Eq, PartialEq)]
+struct Member {
+    cop0: Cop0,
+    tlb: Tlb,
 }
 
-/// No bit is set that means nothing: a host compares and hashes words.
-fn has_no_litter(member: &Session) {
-    let cop0 = &member.cop0.words;
-    assert_eq!(cop0[cop0::word::EPOCH_COUNT] >> 32, 0);
-    assert_eq!(cop0[cop0::word::LAST_COUNT] >> 32, 0);
-    assert_eq!(cop0[cop0::word::EC] >> 8, 0);
-    for i in 0..JTLB_ENTRIES {
-        let [mask, hi, lo0, lo1] = std::array::from_fn(|k| member.tlb.words[4 * i + k]);
-        assert_eq!(mask & !0x01FF_E000, 0);
-        assert_eq!(hi & (!0xC000_00FF_FFFF_E0FF | mask), 0);
-        assert_eq!((lo0 | lo1) & !0x03FF_FFFF, 0);
-        assert_eq!(lo0 & 1, lo1 & 1);
+impl Member {
+    /// Some operation of a session, as a number decides.
+    fn act(&mut self, number: u64) {
+        let n = (number >> 8) as u8;
+        let vaddr = number >> 16 & 0x3_FFFF;
+        match number % 8 {
+            0 | 1 => self.cop0.dmtc0(n, number.rotate_left(17)),
+            2 => self.tlb.write_entry(n.into(), &self.cop0),
+            3 => drop(self.cop0.advance(number >> 40, number >> 50)),
+            4 => drop(self.tlb.lookup(vaddr, n, false)),
+            5 => self.tlb.itlb_fill(vaddr, n),
+            6 => drop(exception::dispatch(&mut self.cop0, Exception::Trap, vaddr, false, 0)),
+            _ => drop(exception::eret(&mut self.cop0)),
+        }
     }
-    assert!(member.tlb.words[tlb::word::SLOT0..].iter().all(|word| *word <= 32));
-    assert_eq!(member.link, u64::from(member.link()));
+
+    /// No bit is set that means nothing: a host compares and hashes words.
+    fn has_no_litter(&self) {
+        let cop0 = &self.cop0.words;
+        assert_eq!(cop0[cop0::word::EPOCH_COUNT] >> 32, 0);
+        assert_eq!(cop0[cop0::word::LAST_COUNT] >> 32, 0);
+        assert_eq!(cop0[cop0::word::EC] >> 8, 0);
+        for i in 0..JTLB_ENTRIES {
+            let [mask, hi, lo0, lo1] = std::array::from_fn(|k| self.tlb.words[4 * i + k]);
+            assert_eq!(mask & !0x01FF_E000, 0);
+            assert_eq!(hi & (!0xC000_00FF_FFFF_E0FF | mask), 0);
+            assert_eq!((lo0 | lo1) & !0x03FF_FFFF, 0);
+            assert_eq!(lo0 & 1, lo1 & 1);
+        }
+        assert!(self.tlb.words[tlb::word::SLOT0..].iter().all(|word| *word <= 32));
+    }
 }
 
 #[test]
 fn a_copy_goes_on_as_the_member_does() {
     let mut mixed = Mixed(1);
-    let mut member = Session::new();
+    let mut member = Member::default();
     for _ in 0..200 {
-        let mut other = Session::new();
+        let mut other = Member::default();
         other.cop0.words.copy_from_slice(&member.cop0.words);
         other.tlb.words.copy_from_slice(&member.tlb.words);
-        other.link = member.link;
         for _ in 0..20 {
             let number = mixed.next();
-            act(&mut member, number);
-            act(&mut other, number);
+            member.act(number);
+            other.act(number);
             assert_eq!(member, other);
-            has_no_litter(&member);
+            member.has_no_litter();
         }
         if member.tlb.is_shutdown() {
-            member = Session::default();
+            member = Member::default();
         }
     }
 }
@@ -133,10 +135,4 @@ fn bits_that_mean_nothing_are_ignored() {
     assert_eq!(cop0.read(reg::CONFIG), Cop0::new().read(reg::CONFIG));
     assert_eq!(cop0.advance(5, 0), Ok(false));
     assert_eq!(cop0.words[cop0::word::EPOCH_COUNT], 0xABCD << 32);
-    for (word, on) in [(u64::MAX, true), (u64::MAX - 1, false)] {
-        let mut session = Session { link: word, ..Session::new() };
-        assert_eq!(session.link(), on);
-        session.set_link();
-        assert_eq!(session.link, 1);
-    }
 }

@@ -55,7 +55,6 @@ v line nffnjjj
 w regs nnnnnnnnnnnnnnnnnnnnnnnnnnnnnnnn
 x clock nnnnnn
 y itlb nnnf
-A link f
 z unplayed
 ",
         row,

@@ -51,9 +51,6 @@ sr itlb_fill lb
 ss translate_via lbfmff
 st dispatch eABlfl
 su eret
-sv set_link
-sw clear_link
-sx link
 na new
 ta state
 wa write bl

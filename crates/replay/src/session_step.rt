@@ -64,9 +64,6 @@ fn op_of(call: Call) -> Chosen {
         b's' => Op::TranslateVia(v[0], byte(v[1]), flag(v[2]), access_of(v[3], v[4], v[5])),
         b't' => Op::Dispatch(exception_of(v[0], v[1], v[2]), v[3], flag(v[4]), v[5]),
         b'u' => Op::Eret,
-        b'v' => Op::SetLink,
-        b'w' => Op::ClearLink,
-        b'x' => Op::Link,
         _ => {
             return Chosen::None;
         }

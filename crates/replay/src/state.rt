@@ -8,7 +8,6 @@ use tlb::Tlb;
 pub fn write(out: &mut [u8], used: usize, s: Session) -> usize {
     let used = of_registers(out, used, s.cop0);
     let used = of_micro(out, used, s.tlb);
-    let used = of_link(out, used, s.link);
     of_entries(out, used, s.tlb)
 }
 
@@ -37,11 +36,6 @@ fn of_micro(out: &mut [u8], used: usize, t: Tlb) -> usize {
         t.shutdown as u64,
     ];
     answer::write_row(out, used, told::ITLB, &values)
-}
-
-fn of_link(out: &mut [u8], used: usize, link: bool) -> usize {
-    let values = [link as u64];
-    answer::write_row(out, used, told::LINK, &values)
 }
 
 fn of_entries(out: &mut [u8], used: usize, t: Tlb) -> usize {

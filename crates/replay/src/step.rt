@@ -20,9 +20,8 @@ pub fn play(call: Call, s: Session) -> Played {
     let told = made.told;
     let cop0 = made.cop0;
     let tlb = s.tlb;
-    let link = s.link;
     Played {
         told,
-        session: Session { cop0, tlb, link },
+        session: Session { cop0, tlb },
     }
 }

@@ -60,8 +60,6 @@ pub const CLOCK: u8 = b'x';
 
 pub const ITLB: u8 = b'y';
 
-pub const LINK: u8 = b'A';
-
 // No answer: an operation that no arm plays.
 pub const UNPLAYED: u8 = b'z';
 

@@ -1,14 +1,13 @@
 -- The exports beside a session's operations that change the register file: from the contract of each, as the checker reads it, what the
 -- words mean afterwards, and that no bit is set that means nothing where none was.
-use Rattle.std.proofs.Common.{◌≡◌, ℕ, Bool, length}
+use Rattle.std.proofs.Common.{◌≡◌, Bool, length}
 use contract.Lifetimes as Lifetimes
 use borrow.Fn.World as World
 use Rattle.cop0.specs.Clock.{asked}
 use Rattle.cop0.specs.Random.{tick_random_of, tick_random_by_of}
 use Rattle.cop0.specs.File.{write_of, set_hardware_of}
 use Rattle.exception.specs.Taking.{nmi_of}
-use Rattle.exception.specs.Returning.{eret_of}
-use Rattle.exception.proofs.Untouched.{nmi_only, eret_only}
+use Rattle.exception.proofs.Untouched.{nmi_only}
 use Rattle.rimjhodek.specs.declared.exceptions.Taken.{Taken}
 use Rattle.rimjhodek.specs.Registers.{cop0_in}
 use Rattle.rimjhodek.proofs.Meaning.{in_fits}
@@ -26,8 +25,6 @@ use Rattle.rimjhodek.specs.contracts.interrupts.rimjhodek_tick_random_by as tick
 use Rattle.rimjhodek.proofs.interrupts.rimjhodek_tick_random_by.Reads as tick_random_by_reads
 use Rattle.rimjhodek.specs.contracts.exceptions.rimjhodek_nmi as nmi
 use Rattle.rimjhodek.proofs.exceptions.rimjhodek_nmi.Reads as nmi_reads
-use Rattle.rimjhodek.specs.contracts.exceptions.rimjhodek_eret as eret
-use Rattle.rimjhodek.proofs.exceptions.rimjhodek_eret.Reads as eret_reads
 
 pub write_leaves : (κs : Lifetimes.Lfts 1) (a : World.ArgsD write.signature κs) (r s : _) → length a.0.now ≡ 38
     → write_reads.Post κs a r s → Leaves a.0.now (write_of (cop0_in a.0.now) a.1.0 a.1.1.0) s.0.now
@@ -54,9 +51,3 @@ pub nmi_leaves : (κs : Lifetimes.Lfts 1) (a : World.ArgsD nmi.signature κs) (r
     → nmi_reads.Post κs a r s → Leaves a.0.now (nmi_of (cop0_in a.0.now) a.1.0).cop0 s.0.now
 nmi_leaves κs a r s l p =
     leaves a.0.now l _ (only_fits (in_fits a.0.now l) (nmi_only (cop0_in a.0.now) a.1.0)) s.0.now p.1
-
--- a return without a link bit: a session's clears it
-pub eret_leaves : (κs : Lifetimes.Lfts 1) (a : World.ArgsD eret.signature κs) (r : ℕ) (s : _) → length a.0.now ≡ 38
-    → eret_reads.Post κs a r s → Leaves a.0.now (eret_of (cop0_in a.0.now)).cop0 s.0.now
-eret_leaves κs a r s l p =
-    leaves a.0.now l _ (only_fits (in_fits a.0.now l) (eret_only (cop0_in a.0.now))) s.0.now p.1

@@ -16,7 +16,7 @@ use Rattle.rimjhodek.specs.declared.table.Looked.{Looked}
 use Rattle.rimjhodek.specs.Modes.{is_mode, access_in}
 use Rattle.rimjhodek.specs.Exceptions.{is_exception, exception_of}
 use Rattle.rimjhodek.specs.Table.{entry_in, table_in}
-use Rattle.rimjhodek.specs.Sessions.{Words, words, at_cop0, at_tlb, at_link, session_in, Whole}
+use Rattle.rimjhodek.specs.Sessions.{Words, words, session_in, Whole}
 use Rattle.rimjhodek.proofs.Scanning.{entry_at_lem}
 use Rattle.rimjhodek.proofs.Stepping.{told_bool, Steps, unwritten}
 use Rattle.rimjhodek.proofs.Steps.{told_flag}
@@ -25,7 +25,6 @@ use Rattle.rimjhodek.proofs.TableSteps.{told_looked, told_translated}
 use Rattle.rimjhodek.proofs.TableSteps as table
 use Rattle.rimjhodek.proofs.ExceptionSteps.{dispatch_in}
 use Rattle.rimjhodek.proofs.ExceptionSteps as exceptions
-use Rattle.rimjhodek.proofs.SessionSteps as sessions
 use Rattle.rimjhodek.specs.contracts.registers.rimjhodek_mfc0 as mfc0
 use Rattle.rimjhodek.proofs.registers.rimjhodek_mfc0.Reads as mfc0_reads
 use Rattle.rimjhodek.specs.contracts.registers.rimjhodek_dmfc0 as dmfc0
@@ -60,70 +59,56 @@ use Rattle.rimjhodek.specs.contracts.translation.rimjhodek_translate_via as tran
 use Rattle.rimjhodek.proofs.translation.rimjhodek_translate_via.Reads as translate_via_reads
 use Rattle.rimjhodek.specs.contracts.exceptions.rimjhodek_dispatch as dispatch
 use Rattle.rimjhodek.proofs.exceptions.rimjhodek_dispatch.Reads as dispatch_reads
-use Rattle.rimjhodek.specs.contracts.sessions.rimjhodek_session_eret as eret
-use Rattle.rimjhodek.proofs.sessions.rimjhodek_session_eret.Reads as eret_reads
-use Rattle.rimjhodek.specs.contracts.sessions.rimjhodek_set_link as set_link
-use Rattle.rimjhodek.proofs.sessions.rimjhodek_set_link.Reads as set_link_reads
-use Rattle.rimjhodek.specs.contracts.sessions.rimjhodek_clear_link as clear_link
-use Rattle.rimjhodek.proofs.sessions.rimjhodek_clear_link.Reads as clear_link_reads
-use Rattle.rimjhodek.specs.contracts.sessions.rimjhodek_link as link
-use Rattle.rimjhodek.proofs.sessions.rimjhodek_link.Reads as link_reads
+use Rattle.rimjhodek.specs.contracts.exceptions.rimjhodek_eret as eret
+use Rattle.rimjhodek.proofs.exceptions.rimjhodek_eret.Reads as eret_reads
 
 -- the operation, the words that were lent, the answer as the session tells it, and the words that were left
 pub data Call : Op → Words → Told → Words → Type 0 where
-  -- the registers' exports, beside any words of the other parts
-  mfc0_call : (κs : Lifetimes.Lfts 1) (a : World.ArgsD mfc0.signature κs) (r : ℕ) (s : _) (w : Words) → mfc0_reads.Post κs a r s
-      → Call (op.Mfc0 a.1.0) (at_cop0 w a.0.now) (number r) (at_cop0 w a.0.now)
-  dmfc0_call : (κs : Lifetimes.Lfts 1) (a : World.ArgsD dmfc0.signature κs) (r : ℕ) (s : _) (w : Words) → dmfc0_reads.Post κs a r s
-      → Call (op.Dmfc0 a.1.0) (at_cop0 w a.0.now) (number r) (at_cop0 w a.0.now)
-  mtc0_call : (κs : Lifetimes.Lfts 1) (a : World.ArgsD mtc0.signature κs) (r s : _) (w : Words) → mtc0_reads.Post κs a r s
-      → Call (op.Mtc0 a.1.0 a.1.1.0) (at_cop0 w a.0.now) done (at_cop0 w s.0.now)
-  dmtc0_call : (κs : Lifetimes.Lfts 1) (a : World.ArgsD dmtc0.signature κs) (r s : _) (w : Words) → dmtc0_reads.Post κs a r s
-      → Call (op.Dmtc0 a.1.0 a.1.1.0) (at_cop0 w a.0.now) done (at_cop0 w s.0.now)
-  set_ip_call : (κs : Lifetimes.Lfts 1) (a : World.ArgsD set_ip.signature κs) (r s : _) (w : Words) → set_ip_reads.Post κs a r s
-      → Call (op.SetIp a.1.0 a.1.1.0) (at_cop0 w a.0.now) done (at_cop0 w s.0.now)
-  interrupt_pending_call : (κs : Lifetimes.Lfts 1) (a : World.ArgsD interrupt_pending.signature κs) (r : Bool) (s : _) (w : Words)
-      → interrupt_pending_reads.Post κs a r s → Call op.InterruptPending (at_cop0 w a.0.now) (told_bool r) (at_cop0 w a.0.now)
-  advance_call : (κs : Lifetimes.Lfts 1) (a : World.ArgsD advance.signature κs) (r : Flag) (s : _) (w : Words)
+  -- the registers' exports, beside any words ts of a table
+  mfc0_call : (κs : Lifetimes.Lfts 1) (a : World.ArgsD mfc0.signature κs) (r : ℕ) (s : _) (ts : List ℕ) → mfc0_reads.Post κs a r s
+      → Call (op.Mfc0 a.1.0) (words a.0.now ts) (number r) (words a.0.now ts)
+  dmfc0_call : (κs : Lifetimes.Lfts 1) (a : World.ArgsD dmfc0.signature κs) (r : ℕ) (s : _) (ts : List ℕ) → dmfc0_reads.Post κs a r s
+      → Call (op.Dmfc0 a.1.0) (words a.0.now ts) (number r) (words a.0.now ts)
+  mtc0_call : (κs : Lifetimes.Lfts 1) (a : World.ArgsD mtc0.signature κs) (r s : _) (ts : List ℕ) → mtc0_reads.Post κs a r s
+      → Call (op.Mtc0 a.1.0 a.1.1.0) (words a.0.now ts) done (words s.0.now ts)
+  dmtc0_call : (κs : Lifetimes.Lfts 1) (a : World.ArgsD dmtc0.signature κs) (r s : _) (ts : List ℕ) → dmtc0_reads.Post κs a r s
+      → Call (op.Dmtc0 a.1.0 a.1.1.0) (words a.0.now ts) done (words s.0.now ts)
+  set_ip_call : (κs : Lifetimes.Lfts 1) (a : World.ArgsD set_ip.signature κs) (r s : _) (ts : List ℕ) → set_ip_reads.Post κs a r s
+      → Call (op.SetIp a.1.0 a.1.1.0) (words a.0.now ts) done (words s.0.now ts)
+  interrupt_pending_call : (κs : Lifetimes.Lfts 1) (a : World.ArgsD interrupt_pending.signature κs) (r : Bool) (s : _) (ts : List ℕ)
+      → interrupt_pending_reads.Post κs a r s → Call op.InterruptPending (words a.0.now ts) (told_bool r) (words a.0.now ts)
+  advance_call : (κs : Lifetimes.Lfts 1) (a : World.ArgsD advance.signature κs) (r : Flag) (s : _) (ts : List ℕ)
       → advance_reads.Post κs a r s
-      → Call (op.Advance a.1.0 a.1.1.0) (at_cop0 w a.0.now) (ofCase 7 (told_flag r)) (at_cop0 w s.0.now)
-  dispatch_call : (κs : Lifetimes.Lfts 1) (a : World.ArgsD dispatch.signature κs) (r : Taken) (s : _) (w : Words)
+      → Call (op.Advance a.1.0 a.1.1.0) (words a.0.now ts) (ofCase 7 (told_flag r)) (words s.0.now ts)
+  dispatch_call : (κs : Lifetimes.Lfts 1) (a : World.ArgsD dispatch.signature κs) (r : Taken) (s : _) (ts : List ℕ)
       → is_exception a.1.0 ≡ true → dispatch_reads.Post κs a r s
-      → Call (op.Dispatch (exception_of a.1.0) a.1.1.0 a.1.1.1.0 a.1.1.1.1.0) (at_cop0 w a.0.now)
-      (toldAnswer (answer.Vector (dispatch_in r))) (at_cop0 w s.0.now)
-  -- the table's
-  lookup_call : (κs : Lifetimes.Lfts 1) (a : World.ArgsD lookup.signature κs) (r : Looked) (s : _) (w : Words)
+      → Call (op.Dispatch (exception_of a.1.0) a.1.1.0 a.1.1.1.0 a.1.1.1.1.0) (words a.0.now ts)
+      (toldAnswer (answer.Vector (dispatch_in r))) (words s.0.now ts)
+  eret_call : (κs : Lifetimes.Lfts 1) (a : World.ArgsD eret.signature κs) (r : ℕ) (s : _) (ts : List ℕ) → eret_reads.Post κs a r s
+      → Call op.Eret (words a.0.now ts) (number r) (words s.0.now ts)
+  -- the table's, beside any words cs of registers
+  lookup_call : (κs : Lifetimes.Lfts 1) (a : World.ArgsD lookup.signature κs) (r : Looked) (s : _) (cs : List ℕ)
       → lookup_reads.Post κs a r s
-      → Call (op.Lookup a.1.0 a.1.1.0 a.1.1.1.0) (at_tlb w a.0.now) (ofCase 4 (told_looked r)) (at_tlb w s.0.now)
-  jtlb_has_match_call : (κs : Lifetimes.Lfts 1) (a : World.ArgsD jtlb_has_match.signature κs) (r : Bool) (s : _) (w : Words)
+      → Call (op.Lookup a.1.0 a.1.1.0 a.1.1.1.0) (words cs a.0.now) (ofCase 4 (told_looked r)) (words cs s.0.now)
+  jtlb_has_match_call : (κs : Lifetimes.Lfts 1) (a : World.ArgsD jtlb_has_match.signature κs) (r : Bool) (s : _) (cs : List ℕ)
       → jtlb_has_match_reads.Post κs a r s
-      → Call (op.JtlbHasMatch a.1.0 a.1.1.0) (at_tlb w a.0.now) (told_bool r) (at_tlb w a.0.now)
-  itlb_probe_call : (κs : Lifetimes.Lfts 1) (a : World.ArgsD itlb_probe.signature κs) (r : Bool) (s : _) (w : Words)
+      → Call (op.JtlbHasMatch a.1.0 a.1.1.0) (words cs a.0.now) (told_bool r) (words cs a.0.now)
+  itlb_probe_call : (κs : Lifetimes.Lfts 1) (a : World.ArgsD itlb_probe.signature κs) (r : Bool) (s : _) (cs : List ℕ)
       → itlb_probe_reads.Post κs a r s
-      → Call (op.ItlbProbe a.1.0 a.1.1.0) (at_tlb w a.0.now) (told_bool r) (at_tlb w s.0.now)
-  itlb_fill_call : (κs : Lifetimes.Lfts 1) (a : World.ArgsD itlb_fill.signature κs) (r s : _) (w : Words) → itlb_fill_reads.Post κs a r s
-      → Call (op.ItlbFill a.1.0 a.1.1.0) (at_tlb w a.0.now) done (at_tlb w s.0.now)
-  translate_via_call : (κs : Lifetimes.Lfts 1) (a : World.ArgsD translate_via.signature κs) (r : Looked) (s : _) (w : Words)
+      → Call (op.ItlbProbe a.1.0 a.1.1.0) (words cs a.0.now) (told_bool r) (words cs s.0.now)
+  itlb_fill_call : (κs : Lifetimes.Lfts 1) (a : World.ArgsD itlb_fill.signature κs) (r s : _) (cs : List ℕ) → itlb_fill_reads.Post κs a r s
+      → Call (op.ItlbFill a.1.0 a.1.1.0) (words cs a.0.now) done (words cs s.0.now)
+  translate_via_call : (κs : Lifetimes.Lfts 1) (a : World.ArgsD translate_via.signature κs) (r : Looked) (s : _) (cs : List ℕ)
       → is_mode a.1.1.1.1.0.mode ≡ true → translate_via_reads.Post κs a r s
-      → Call (op.TranslateVia a.1.0 a.1.1.0 a.1.1.1.0 (access_in a.1.1.1.1.0)) (at_tlb w a.0.now)
-      (ofCase 5 (told_translated r)) (at_tlb w s.0.now)
-  -- the link bit's
-  set_link_call : (κs : Lifetimes.Lfts 1) (a : World.ArgsD set_link.signature κs) (r s : _) (w : Words) → set_link_reads.Post κs a r s
-      → Call op.SetLink (at_link w a.0.now) done (at_link w s.0.now)
-  clear_link_call : (κs : Lifetimes.Lfts 1) (a : World.ArgsD clear_link.signature κs) (r s : _) (w : Words) → clear_link_reads.Post κs a r s
-      → Call op.ClearLink (at_link w a.0.now) done (at_link w s.0.now)
-  link_call : (κs : Lifetimes.Lfts 1) (a : World.ArgsD link.signature κs) (r : Bool) (s : _) (w : Words) → link_reads.Post κs a r s
-      → Call op.Link (at_link w a.0.now) (told_bool r) (at_link w a.0.now)
-  -- those of the registers and the link bit, beside any words ts of a table
-  eret_call : (κs : Lifetimes.Lfts 2) (a : World.ArgsD eret.signature κs) (r : ℕ) (s : _) (ts : List ℕ) → eret_reads.Post κs a r s
-      → Call op.Eret (words a.0.now ts a.1.0.now) (number r) (words s.0.now ts s.1.0.now)
-  -- those of the registers and the table, beside any word l of the link bit
-  write_entry_call : (κs : Lifetimes.Lfts 2) (a : World.ArgsD write_entry.signature κs) (r s : _) (l : ℕ) → write_entry_reads.Post κs a r s
-      → Call (op.WriteEntry a.1.0) (words a.1.1.0.now a.0.now l) done (words a.1.1.0.now s.0.now l)
-  read_entry_call : (κs : Lifetimes.Lfts 2) (a : World.ArgsD read_entry.signature κs) (r s : _) (l : ℕ) → read_entry_reads.Post κs a r s
-      → Call (op.ReadEntry a.1.0) (words a.1.1.0.now a.0.now l) done (words s.1.1.0.now a.0.now l)
-  probe_call : (κs : Lifetimes.Lfts 2) (a : World.ArgsD probe.signature κs) (r s : _) (l : ℕ) → probe_reads.Post κs a r s
-      → Call op.Probe (words a.1.0.now a.0.now l) done (words s.1.0.now a.0.now l)
+      → Call (op.TranslateVia a.1.0 a.1.1.0 a.1.1.1.0 (access_in a.1.1.1.1.0)) (words cs a.0.now)
+      (ofCase 5 (told_translated r)) (words cs s.0.now)
+  -- those of both
+  write_entry_call : (κs : Lifetimes.Lfts 2) (a : World.ArgsD write_entry.signature κs) (r s : _) → write_entry_reads.Post κs a r s
+      → Call (op.WriteEntry a.1.0) (words a.1.1.0.now a.0.now) done (words a.1.1.0.now s.0.now)
+  read_entry_call : (κs : Lifetimes.Lfts 2) (a : World.ArgsD read_entry.signature κs) (r s : _) → read_entry_reads.Post κs a r s
+      → Call (op.ReadEntry a.1.0) (words a.1.1.0.now a.0.now) done (words s.1.1.0.now a.0.now)
+  probe_call : (κs : Lifetimes.Lfts 2) (a : World.ArgsD probe.signature κs) (r s : _) → probe_reads.Post κs a r s
+      → Call op.Probe (words a.1.0.now a.0.now) done (words s.1.0.now a.0.now)
   -- and of none
   page_size_call : (a : ℕ × Unit {0}) (r : ℕ) (w : Words) → page_size_reads.Post tt a r a → Call (op.PageSize a.0) w (number r) w
   pair_size_call : (a : ℕ × Unit {0}) (r : ℕ) (w : Words) → pair_size_reads.Post tt a r a → Call (op.PairSize a.0) w (number r) w
@@ -132,26 +117,23 @@ pub data Call : Op → Words → Told → Words → Type 0 where
   entry : (i : ℕ) (w : Words) → Call (op.Entry i) w (toldAnswer (answer.Entry (entry_in w.tlb (i % 32)))) w
 
 pub call_steps : {o : Op} {w : Words} {a : Told} {left : Words} → Whole w → Call o w a left → Steps o w a left
-call_steps h (mfc0_call κs a r s w p) = registers.mfc0_steps κs a r s w h p
-call_steps h (dmfc0_call κs a r s w p) = registers.dmfc0_steps κs a r s w h p
-call_steps h (mtc0_call κs a r s w p) = registers.mtc0_steps κs a r s w h p
-call_steps h (dmtc0_call κs a r s w p) = registers.dmtc0_steps κs a r s w h p
-call_steps h (set_ip_call κs a r s w p) = registers.set_ip_steps κs a r s w h p
-call_steps h (interrupt_pending_call κs a r s w p) = registers.interrupt_pending_steps κs a r s w h p
-call_steps h (advance_call κs a r s w p) = registers.advance_steps κs a r s w h p
-call_steps h (dispatch_call κs a r s w named p) = (exceptions.dispatch_steps κs a r s w h named p).0
-call_steps h (lookup_call κs a r s w p) = table.lookup_steps κs a r s w h p
-call_steps h (jtlb_has_match_call κs a r s w p) = table.jtlb_has_match_steps κs a r s w h p
-call_steps h (itlb_probe_call κs a r s w p) = table.itlb_probe_steps κs a r s w h p
-call_steps h (itlb_fill_call κs a r s w p) = table.itlb_fill_steps κs a r s w h p
-call_steps h (translate_via_call κs a r s w named p) = table.translate_via_steps κs a r s w h named p
-call_steps h (set_link_call κs a r s w p) = sessions.set_link_steps κs a r s w h p
-call_steps h (clear_link_call κs a r s w p) = sessions.clear_link_steps κs a r s w h p
-call_steps h (link_call κs a r s w p) = sessions.link_steps κs a r s w h p
-call_steps h (eret_call κs a r s ts p) = sessions.eret_steps κs a r s ts h p
-call_steps h (write_entry_call κs a r s l p) = table.write_entry_steps κs a r s l h p
-call_steps h (read_entry_call κs a r s l p) = table.read_entry_steps κs a r s l h p
-call_steps h (probe_call κs a r s l p) = table.probe_steps κs a r s l h p
+call_steps h (mfc0_call κs a r s ts p) = registers.mfc0_steps κs a r s ts h p
+call_steps h (dmfc0_call κs a r s ts p) = registers.dmfc0_steps κs a r s ts h p
+call_steps h (mtc0_call κs a r s ts p) = registers.mtc0_steps κs a r s ts h p
+call_steps h (dmtc0_call κs a r s ts p) = registers.dmtc0_steps κs a r s ts h p
+call_steps h (set_ip_call κs a r s ts p) = registers.set_ip_steps κs a r s ts h p
+call_steps h (interrupt_pending_call κs a r s ts p) = registers.interrupt_pending_steps κs a r s ts h p
+call_steps h (advance_call κs a r s ts p) = registers.advance_steps κs a r s ts h p
+call_steps h (dispatch_call κs a r s ts named p) = (exceptions.dispatch_steps κs a r s ts h named p).0
+call_steps h (eret_call κs a r s ts p) = exceptions.eret_steps κs a r s ts h p
+call_steps h (lookup_call κs a r s cs p) = table.lookup_steps κs a r s cs h p
+call_steps h (jtlb_has_match_call κs a r s cs p) = table.jtlb_has_match_steps κs a r s cs h p
+call_steps h (itlb_probe_call κs a r s cs p) = table.itlb_probe_steps κs a r s cs h p
+call_steps h (itlb_fill_call κs a r s cs p) = table.itlb_fill_steps κs a r s cs h p
+call_steps h (translate_via_call κs a r s cs named p) = table.translate_via_steps κs a r s cs h named p
+call_steps h (write_entry_call κs a r s p) = table.write_entry_steps κs a r s h p
+call_steps h (read_entry_call κs a r s p) = table.read_entry_steps κs a r s h p
+call_steps h (probe_call κs a r s p) = table.probe_steps κs a r s h p
 call_steps h (page_size_call a r w p) = table.page_size_steps a r w h p
 call_steps h (pair_size_call a r w p) = table.pair_size_steps a r w h p
 call_steps h (is_shutdown w) = unwritten op.IsShutdown w h _ refl

@@ -18,7 +18,6 @@ pub mod Granting
 pub mod Translating
 pub mod Taking
 pub mod ExceptionSteps
-pub mod SessionSteps
 pub mod TableSteps
 pub mod WhichEntry
 pub mod Unique

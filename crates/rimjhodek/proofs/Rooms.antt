@@ -5,9 +5,8 @@
 -- 2. `calls_exact`: from words in which no bit is set that means nothing, no call sets one.
 -- 3. `same_words`: one member advances at once, another in pieces with the same totals; whatever they called before and call after,
 --    their WORDS are equal, they are told as many timer edges (`same_edges`), and `answers_are` and `session`'s `Rooms` say the rest.
--- 4. `same_link`: members who call the same but for their advances have the same link bit, however far they advance.
--- 5. The first use is members who start by `rimjhodek_session_new`: `new_starts`, `members_alike`.
-use Rattle.std.proofs.Common.{◌≡◌, ℕ, ◌^◌, ◌<◌, false, List, [], ◌∷◌, ◌++◌, sym, refl, ap, ◌∙◌, subst, ap₂}
+-- 4. The first use is members who start by `rimjhodek_session_new`: `new_starts`, `members_alike`.
+use Rattle.std.proofs.Common.{◌≡◌, ◌^◌, ◌<◌, List, [], ◌∷◌, ◌++◌, sym, refl, ap, ◌∙◌, subst, ap₂}
 use contract.Lifetimes as Lifetimes
 use borrow.Fn.World as World
 use Rattle.bits.specs.Told.{Told}
@@ -24,12 +23,10 @@ use Rattle.session.specs.declared.op.Op.TheVariants as op
 use Rattle.session.specs.Record.{fresh}
 use Rattle.session.specs.Step.{Outcome}
 use Rattle.session.specs.Run.{Ran, preceded, run_by, run, advances, edges_in}
-use Rattle.session.specs.Link.{Alike}
-use Rattle.session.proofs.Links as links
 use Rattle.session.proofs.Rooms as rooms
 use Rattle.rimjhodek.specs.Registers.{blank, cop0_words}
 use Rattle.rimjhodek.specs.Table.{table_words}
-use Rattle.rimjhodek.specs.Sessions.{link_in, Words, words, session_in, session_words, Whole, Exact}
+use Rattle.rimjhodek.specs.Sessions.{Words, words, session_in, session_words, Whole, Exact}
 use Rattle.rimjhodek.proofs.Meaning as registers
 use Rattle.rimjhodek.proofs.Fitting.{fresh_fits}
 use Rattle.rimjhodek.proofs.Tables as tables
@@ -73,16 +70,10 @@ calls_exact (o ∷ os) w h x (r ∷ rs) (call, rest) =
     let s = call_steps h call in
     calls_exact os r.words s.whole (s.exact x) rs rest
 
--- words that are just those of what they mean, part by part
-apart : (w : Words) → Exact w → w ≡ session_words (session_in w)
-apart w x =
-    ap₂ (λ (cs ts : List ℕ). words cs ts w.link) x.cop0 x.tlb
-    ∙ ap (words (session_words (session_in w)).cop0 (session_words (session_in w)).tlb) x.link
-
--- so they are the same where they mean the same
+-- words that are just those of what they mean are the same where they mean the same
 pub same_meaning : (w v : Words) → Exact w → Exact v → session_in w ≡ session_in v → w ≡ v
 same_meaning w v x y e =
-    apart w x ∙ ap session_words e ∙ sym (apart v y)
+    ap₂ words x.cop0 x.tlb ∙ ap session_words e ∙ sym (ap₂ words y.cop0 y.tlb)
 
 -- one advance, or pieces of it
 module _ (w : Words) (h : Whole w) (k : Steady (session_in w).cop0) (before after : List Op) (ps : List Piece)
@@ -126,37 +117,24 @@ module _ (w : Words) (h : Whole w) (k : Steady (session_in w).cop0) (before afte
       ∙ rooms.all_edges (session_in w) k before after ps small
       ∙ sym (ap edges_in answers_are.1)
 
--- the link bit goes by the other calls alone
-pub same_link : {os ps : List Op} → Alike os ps → (w v : Words) → Whole w → Whole v → link_in w.link ≡ link_in v.link
-    → (rs rs' : List Left) → Called os w rs → Called ps v rs' → link_in (left w rs).link ≡ link_in (left v rs').link
-same_link {os} {ps} a w v h k e rs rs' c d =
-    ap (λ (r : Ran). r.session.link) (calls_are_the_run os w h rs c)
-    ∙ links.same_link a (session_in w) (session_in v) e
-    ∙ sym (ap (λ (r : Ran). r.session.link) (calls_are_the_run ps v k rs' d))
-
 -- THE FRESH SESSION: a member who starts by the export has its words
 pub record Starts (w : Words) : Type 0 where
   pub whole : Whole w
   pub exact : Exact w
   pub means : session_in w ≡ fresh
 
-starts : Starts (session_words fresh)
+starts : Starts (words (cop0_words cop0.fresh) (table_words fresh_table))
 starts =
     let back = registers.in_put blank cop0.fresh fresh_fits in
     record {
       whole = record { cop0 = registers.long_put blank cop0.fresh fresh_fits; tlb = tables.long_fresh };
-      exact = record { cop0 = ap cop0_words (sym back); tlb = ap table_words (sym tables.in_fresh); link = refl };
-      means = ap₂ (λ (c : Cop0) (t : Tlb). record { cop0 = c; tlb = t; link = false }) back tables.in_fresh;
+      exact = record { cop0 = ap cop0_words (sym back); tlb = ap table_words (sym tables.in_fresh) };
+      means = ap₂ (λ (c : Cop0) (t : Tlb). record { cop0 = c; tlb = t }) back tables.in_fresh;
     }
 
-pub new_starts : (κs : Lifetimes.Lfts 3) (a : World.ArgsD session_new.signature κs) (s : _) → session_new_reads.Post κs a tt s
-    → Starts (words s.0.now s.1.0.now s.1.1.0.now)
-new_starts κs a s p =
-    subst Starts
-    (sym
-    (ap₂ (λ (cs ts : List ℕ). words cs ts s.1.1.0.now) p.0 p.1
-    ∙ ap (words (cop0_words cop0.fresh) (table_words fresh_table)) p.2))
-    starts
+pub new_starts : (κs : Lifetimes.Lfts 2) (a : World.ArgsD session_new.signature κs) (s : _) → session_new_reads.Post κs a tt s
+    → Starts (words s.0.now s.1.0.now)
+new_starts κs a s p = subst Starts (sym (ap₂ words p.0 p.1)) starts
 
 -- so that however such members cut their time, their words stay equal
 pub members_alike : (w : Words) → Starts w → (before after : List Op) (ps : List Piece) → all_counts ps < 2 ^ 32 → (rs rs' : List Left)

@@ -1,16 +1,16 @@
 -- A call of an export as a step of the session that the lent words mean.
-use Rattle.std.proofs.Common.{◌≡◌, ℕ, Bool, true, false, List, length, sym, refl, ap, ◌∙◌, subst, ap₂}
+use Rattle.std.proofs.Common.{◌≡◌, ℕ, Bool, List, length, sym, ap, ◌∙◌, subst}
 use Rattle.bits.specs.Told.{Told}
 use Rattle.cop0.specs.declared.registers.Cop0.{Cop0}
 use Rattle.tlb.specs.declared.table.Tlb.{Tlb}
 use Rattle.session.specs.declared.op.Op.{Op}
 use Rattle.session.specs.declared.op.Answer.TheVariants as answer
-use Rattle.session.specs.Record.{with_cop0, with_tlb, with_link}
+use Rattle.session.specs.Record.{with_cop0, with_tlb}
 use Rattle.session.specs.Answers.{toldAnswer}
 use Rattle.session.specs.Step.{told, step_of}
 use Rattle.rimjhodek.specs.Registers.{cop0_in, put_in, cop0_words}
 use Rattle.rimjhodek.specs.Table.{table_in, put_micro, table_words}
-use Rattle.rimjhodek.specs.Sessions.{link_in, link_word, Words, words, at_cop0, at_tlb, at_link, session_in, Whole, Exact}
+use Rattle.rimjhodek.specs.Sessions.{Words, words, session_in, Whole, Exact}
 use Rattle.rimjhodek.proofs.Meaning as registers
 use Rattle.rimjhodek.proofs.Tables as tables
 use Rattle.rimjhodek.proofs.Exact.{exact_cop0, exact_table}
@@ -30,18 +30,6 @@ leaves cs l c f left e =
       exact = λ x. subst (λ (ws : List ℕ). ws ≡ cop0_words (cop0_in ws)) (sym e) (exact_cop0 cs l x c f);
     }
 
--- the word of a link bit: it means that bit, and no other is set
-module _ (b : Bool) (l : ℕ) (e : l ≡ link_word b) where
-  back : (d : Bool) → link_in (link_word d) ≡ d
-  back true = refl
-  back false = refl
-
-  link_means : link_in l ≡ b
-  link_means = ap (λ (k : ℕ). link_in k) e ∙ back b
-
-  link_exact : l ≡ link_word (link_in l)
-  link_exact = e ∙ ap (λ (d : Bool). link_word d) (sym link_means)
-
 -- yes or no, as the session tells it
 abbrev pub told_bool : Bool → Told
 told_bool b = toldAnswer (answer.Flag b)
@@ -60,19 +48,19 @@ module _ (o : Op) (w : Words) (h : Whole w) (a : Told) where
 
   -- another register file
   pub to_cop0 : (c : Cop0) → registers.Fits c → told a (with_cop0 (session_in w) c) ≡ step_of o (session_in w)
-      → (cs : List ℕ) → cs ≡ put_in w.cop0 c → Steps o w a (at_cop0 w cs)
+      → (cs : List ℕ) → cs ≡ put_in w.cop0 c → Steps o w a (words cs w.tlb)
   to_cop0 c f s cs e =
       let l = leaves w.cop0 h.cop0 c f cs e in
       record {
         step = ap (λ (d : Cop0). told a (with_cop0 (session_in w) d)) l.means ∙ s;
         whole = record { cop0 = l.long; tlb = h.tlb };
-        exact = λ x. record { cop0 = l.exact x.cop0; tlb = x.tlb; link = x.link };
+        exact = λ x. record { cop0 = l.exact x.cop0; tlb = x.tlb };
       }
 
   -- another table, put into words ts of which the entries are that table's
   pub to_table : (ts : List ℕ) → length ts ≡ 132 → (w.tlb ≡ table_words (table_in w.tlb) → ts ≡ table_words (table_in ts))
       → (t : Tlb) → tables.Fits ts t → told a (with_tlb (session_in w) t) ≡ step_of o (session_in w)
-      → (ts' : List ℕ) → ts' ≡ put_micro ts t → Steps o w a (at_tlb w ts')
+      → (ts' : List ℕ) → ts' ≡ put_micro ts t → Steps o w a (words w.cop0 ts')
   to_table ts l k t f s ts' e =
       record {
         step = ap (λ (u : Tlb). told a (with_tlb (session_in w) u)) (ap (λ (vs : List ℕ). table_in vs) e ∙ tables.in_put ts t l f) ∙ s;
@@ -81,29 +69,5 @@ module _ (o : Op) (w : Words) (h : Whole w) (a : Told) where
             record {
               cop0 = x.cop0;
               tlb = subst (λ (vs : List ℕ). vs ≡ table_words (table_in vs)) (sym e) (exact_table ts (k x.tlb) t f l);
-              link = x.link;
             };
-      }
-
-  -- another link bit
-  pub to_link : (b : Bool) → told a (with_link (session_in w) b) ≡ step_of o (session_in w)
-      → (l : ℕ) → l ≡ link_word b → Steps o w a (at_link w l)
-  to_link b s l e =
-      record {
-        step = ap (λ (d : Bool). told a (with_link (session_in w) d)) (link_means b l e) ∙ s;
-        whole = record { cop0 = h.cop0; tlb = h.tlb };
-        exact = λ x. record { cop0 = x.cop0; tlb = x.tlb; link = link_exact b l e };
-      }
-
-  -- another register file and another link bit
-  pub to_cop0_and_link : (c : Cop0) → registers.Fits c → (b : Bool) → told a (with_link (with_cop0 (session_in w) c) b) ≡ step_of o (session_in w)
-      → (cs : List ℕ) → cs ≡ put_in w.cop0 c → (l : ℕ) → l ≡ link_word b → Steps o w a (words cs w.tlb l)
-  to_cop0_and_link c f b s cs e l e' =
-      let v = leaves w.cop0 h.cop0 c f cs e in
-      record {
-        step =
-            ap₂ (λ (d : Cop0) (k : Bool). told a (with_link (with_cop0 (session_in w) d) k)) v.means (link_means b l e')
-            ∙ s;
-        whole = record { cop0 = v.long; tlb = h.tlb };
-        exact = λ x. record { cop0 = v.exact x.cop0; tlb = x.tlb; link = link_exact b l e' };
       }

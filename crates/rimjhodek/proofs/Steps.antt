@@ -1,7 +1,7 @@
 -- The exports of the register file make a session: from the contract of an operation's export, as the checker reads it, follows that
--- the answer and the session that the words mean afterwards, beside any words of the other parts, are the session's own step. So what is proved
+-- the answer and the session that the words mean afterwards, beside any words of a table, are the session's own step. So what is proved
 -- of sessions holds of a caller of the exports.
-use Rattle.std.proofs.Common.{◌≡◌, ℕ, ◌^◌, Bool, true, false, cond, eqb, ltb, [], ◌∷◌, refl, ap, ◌∙◌}
+use Rattle.std.proofs.Common.{◌≡◌, ℕ, ◌^◌, Bool, true, false, cond, eqb, ltb, List, [], ◌∷◌, refl, ap, ◌∙◌}
 use contract.Lifetimes as Lifetimes
 use borrow.Fn.World as World
 use Rattle.bits.specs.Field.{bit}
@@ -11,13 +11,13 @@ use Rattle.cop0.specs.Clock.{edge_of}
 use Rattle.cop0.specs.Access.{moved32}
 use Rattle.cop0.specs.Advance.{moved, advance_told, advance_of}
 use Rattle.session.specs.declared.op.Op.TheVariants as op
-use Rattle.session.specs.Record.{with_cop0}
 use Rattle.session.specs.Answers.{ofCase, done, number}
 use Rattle.session.specs.Step.{told, flag}
 use Rattle.rimjhodek.specs.declared.answers.Flag.{Flag}
 use Rattle.rimjhodek.specs.Answers.{flagOf}
 use Rattle.rimjhodek.specs.Registers.{cop0_in}
-use Rattle.rimjhodek.specs.Sessions.{Words, at_cop0, session_in, Whole}
+use Rattle.rimjhodek.specs.Table.{table_in}
+use Rattle.rimjhodek.specs.Sessions.{words, session_in, Whole}
 use Rattle.rimjhodek.proofs.Meaning.{in_fits}
 use Rattle.rimjhodek.proofs.Fitting.{dmtc0_fits, set_ip_fits, advance_fits}
 use Rattle.rimjhodek.proofs.Stepping.{told_bool, Steps, unwritten, to_cop0}
@@ -41,38 +41,38 @@ abbrev pub told_flag : Flag → Told
 told_flag f = cond (eqb f.refused 0) (answered (bit f.is ∷ [])) (refused f.refused)
 
 -- what is read
-pub mfc0_steps : (κs : Lifetimes.Lfts 1) (a : World.ArgsD mfc0.signature κs) (r : ℕ) (s : _) (w : Words)
-    → Whole (at_cop0 w a.0.now) → mfc0_reads.Post κs a r s
-    → Steps (op.Mfc0 a.1.0) (at_cop0 w a.0.now) (number r) (at_cop0 w a.0.now)
-mfc0_steps κs a r s w h p = unwritten _ _ h _ (ap (λ (x : ℕ). told (number x) (session_in (at_cop0 w a.0.now))) p)
+pub mfc0_steps : (κs : Lifetimes.Lfts 1) (a : World.ArgsD mfc0.signature κs) (r : ℕ) (s : _) (ts : List ℕ)
+    → Whole (words a.0.now ts) → mfc0_reads.Post κs a r s
+    → Steps (op.Mfc0 a.1.0) (words a.0.now ts) (number r) (words a.0.now ts)
+mfc0_steps κs a r s ts h p = unwritten _ _ h _ (ap (λ (x : ℕ). told (number x) (session_in (words a.0.now ts))) p)
 
-pub dmfc0_steps : (κs : Lifetimes.Lfts 1) (a : World.ArgsD dmfc0.signature κs) (r : ℕ) (s : _) (w : Words)
-    → Whole (at_cop0 w a.0.now) → dmfc0_reads.Post κs a r s
-    → Steps (op.Dmfc0 a.1.0) (at_cop0 w a.0.now) (number r) (at_cop0 w a.0.now)
-dmfc0_steps κs a r s w h p = unwritten _ _ h _ (ap (λ (x : ℕ). told (number x) (session_in (at_cop0 w a.0.now))) p)
+pub dmfc0_steps : (κs : Lifetimes.Lfts 1) (a : World.ArgsD dmfc0.signature κs) (r : ℕ) (s : _) (ts : List ℕ)
+    → Whole (words a.0.now ts) → dmfc0_reads.Post κs a r s
+    → Steps (op.Dmfc0 a.1.0) (words a.0.now ts) (number r) (words a.0.now ts)
+dmfc0_steps κs a r s ts h p = unwritten _ _ h _ (ap (λ (x : ℕ). told (number x) (session_in (words a.0.now ts))) p)
 
-pub interrupt_pending_steps : (κs : Lifetimes.Lfts 1) (a : World.ArgsD interrupt_pending.signature κs) (r : Bool) (s : _) (w : Words)
-    → Whole (at_cop0 w a.0.now) → interrupt_pending_reads.Post κs a r s
-    → Steps op.InterruptPending (at_cop0 w a.0.now) (told_bool r) (at_cop0 w a.0.now)
-interrupt_pending_steps κs a r s w h p = unwritten _ _ h _ (ap (λ (x : Bool). flag x (session_in (at_cop0 w a.0.now))) p)
+pub interrupt_pending_steps : (κs : Lifetimes.Lfts 1) (a : World.ArgsD interrupt_pending.signature κs) (r : Bool) (s : _) (ts : List ℕ)
+    → Whole (words a.0.now ts) → interrupt_pending_reads.Post κs a r s
+    → Steps op.InterruptPending (words a.0.now ts) (told_bool r) (words a.0.now ts)
+interrupt_pending_steps κs a r s ts h p = unwritten _ _ h _ (ap (λ (x : Bool). flag x (session_in (words a.0.now ts))) p)
 
 -- what is written
-pub mtc0_steps : (κs : Lifetimes.Lfts 1) (a : World.ArgsD mtc0.signature κs) (r s : _) (w : Words)
-    → Whole (at_cop0 w a.0.now) → mtc0_reads.Post κs a r s
-    → Steps (op.Mtc0 a.1.0 a.1.1.0) (at_cop0 w a.0.now) done (at_cop0 w s.0.now)
-mtc0_steps κs a r s w h p =
+pub mtc0_steps : (κs : Lifetimes.Lfts 1) (a : World.ArgsD mtc0.signature κs) (r s : _) (ts : List ℕ)
+    → Whole (words a.0.now ts) → mtc0_reads.Post κs a r s
+    → Steps (op.Mtc0 a.1.0 a.1.1.0) (words a.0.now ts) done (words s.0.now ts)
+mtc0_steps κs a r s ts h p =
     to_cop0 _ _ h _ _ (dmtc0_fits (in_fits a.0.now h.cop0) a.1.0 (moved32 a.1.0 a.1.1.0)) refl s.0.now p
 
-pub dmtc0_steps : (κs : Lifetimes.Lfts 1) (a : World.ArgsD dmtc0.signature κs) (r s : _) (w : Words)
-    → Whole (at_cop0 w a.0.now) → dmtc0_reads.Post κs a r s
-    → Steps (op.Dmtc0 a.1.0 a.1.1.0) (at_cop0 w a.0.now) done (at_cop0 w s.0.now)
-dmtc0_steps κs a r s w h p =
+pub dmtc0_steps : (κs : Lifetimes.Lfts 1) (a : World.ArgsD dmtc0.signature κs) (r s : _) (ts : List ℕ)
+    → Whole (words a.0.now ts) → dmtc0_reads.Post κs a r s
+    → Steps (op.Dmtc0 a.1.0 a.1.1.0) (words a.0.now ts) done (words s.0.now ts)
+dmtc0_steps κs a r s ts h p =
     to_cop0 _ _ h _ _ (dmtc0_fits (in_fits a.0.now h.cop0) a.1.0 a.1.1.0) refl s.0.now p
 
-pub set_ip_steps : (κs : Lifetimes.Lfts 1) (a : World.ArgsD set_ip.signature κs) (r s : _) (w : Words)
-    → Whole (at_cop0 w a.0.now) → set_ip_reads.Post κs a r s
-    → Steps (op.SetIp a.1.0 a.1.1.0) (at_cop0 w a.0.now) done (at_cop0 w s.0.now)
-set_ip_steps κs a r s w h p =
+pub set_ip_steps : (κs : Lifetimes.Lfts 1) (a : World.ArgsD set_ip.signature κs) (r s : _) (ts : List ℕ)
+    → Whole (words a.0.now ts) → set_ip_reads.Post κs a r s
+    → Steps (op.SetIp a.1.0 a.1.1.0) (words a.0.now ts) done (words s.0.now ts)
+set_ip_steps κs a r s ts h p =
     to_cop0 _ _ h _ _ (set_ip_fits (in_fits a.0.now h.cop0) a.1.0 a.1.1.0) refl s.0.now p
 
 -- nothing of an advance's answer is lost
@@ -85,12 +85,12 @@ flag_told c n m = go (ltb n (2 ^ 32)) (edge_of (moved c n m))
     go true false = refl
     go false e = refl
 
-pub advance_steps : (κs : Lifetimes.Lfts 1) (a : World.ArgsD advance.signature κs) (r : Flag) (s : _) (w : Words)
-    → Whole (at_cop0 w a.0.now) → advance_reads.Post κs a r s
-    → Steps (op.Advance a.1.0 a.1.1.0) (at_cop0 w a.0.now) (ofCase 7 (told_flag r)) (at_cop0 w s.0.now)
-advance_steps κs a r s w h p =
+pub advance_steps : (κs : Lifetimes.Lfts 1) (a : World.ArgsD advance.signature κs) (r : Flag) (s : _) (ts : List ℕ)
+    → Whole (words a.0.now ts) → advance_reads.Post κs a r s
+    → Steps (op.Advance a.1.0 a.1.1.0) (words a.0.now ts) (ofCase 7 (told_flag r)) (words s.0.now ts)
+advance_steps κs a r s ts h p =
     let c = cop0_in a.0.now in
     to_cop0 _ _ h _ _ (advance_fits (in_fits a.0.now h.cop0) a.1.0 a.1.1.0)
-    (ap (λ (x : Told). told (ofCase 7 x) (with_cop0 (session_in w) (advance_of c a.1.0 a.1.1.0)))
+    (ap (λ (x : Told). told (ofCase 7 x) (record { cop0 = advance_of c a.1.0 a.1.1.0; tlb = table_in ts }))
     (ap told_flag p.0 ∙ flag_told c a.1.0 a.1.1.0))
     s.0.now p.1

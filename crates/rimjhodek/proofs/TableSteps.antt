@@ -23,7 +23,6 @@ use Rattle.addr.specs.Answers.{toldTranslate}
 use Rattle.addr.specs.Translate.{translate_answer, translate_table}
 use Rattle.session.specs.declared.op.Op.{Op}
 use Rattle.session.specs.declared.op.Op.TheVariants as op
-use Rattle.session.specs.Record.{with_tlb}
 use Rattle.session.specs.Answers.{ofCase, done, number}
 use Rattle.session.specs.Step.{told, flag, step_of}
 use Rattle.rimjhodek.specs.declared.table.Looked.{Looked}
@@ -32,7 +31,7 @@ use Rattle.rimjhodek.specs.Registers.{cop0_in}
 use Rattle.rimjhodek.specs.Numbered.{unknown}
 use Rattle.rimjhodek.specs.Modes.{is_mode, access_in}
 use Rattle.rimjhodek.specs.Table.{table_in, put_micro, put_entry, failed, looked_of}
-use Rattle.rimjhodek.specs.Sessions.{Words, words, at_tlb, session_in, Whole}
+use Rattle.rimjhodek.specs.Sessions.{Words, words, session_in, Whole}
 use Rattle.rimjhodek.specs.Translation.{translated_of, via_answer, via_table}
 use Rattle.rimjhodek.proofs.Slots.{at_home}
 use Rattle.rimjhodek.proofs.Meaning.{in_fits}
@@ -97,46 +96,46 @@ pub pair_size_steps : (a : ℕ × Unit {0}) (r : ℕ) (w : Words) → Whole w �
 pair_size_steps a r w h p = unwritten _ w h _ (ap (λ (x : ℕ). told (number x) (session_in w)) p)
 
 -- what is read
-pub jtlb_has_match_steps : (κs : Lifetimes.Lfts 1) (a : World.ArgsD jtlb_has_match.signature κs) (r : Bool) (s : _) (w : Words)
-    → Whole (at_tlb w a.0.now) → jtlb_has_match_reads.Post κs a r s
-    → Steps (op.JtlbHasMatch a.1.0 a.1.1.0) (at_tlb w a.0.now) (told_bool r) (at_tlb w a.0.now)
-jtlb_has_match_steps κs a r s w h p = unwritten _ _ h _ (ap (λ (x : Bool). flag x (session_in (at_tlb w a.0.now))) p)
+pub jtlb_has_match_steps : (κs : Lifetimes.Lfts 1) (a : World.ArgsD jtlb_has_match.signature κs) (r : Bool) (s : _) (cs : List ℕ)
+    → Whole (words cs a.0.now) → jtlb_has_match_reads.Post κs a r s
+    → Steps (op.JtlbHasMatch a.1.0 a.1.1.0) (words cs a.0.now) (told_bool r) (words cs a.0.now)
+jtlb_has_match_steps κs a r s cs h p = unwritten _ _ h _ (ap (λ (x : Bool). flag x (session_in (words cs a.0.now))) p)
 
 -- a table whose entries stay
-module _ (o : Op) (w : Words) (ts : List ℕ) (h : Whole (at_tlb w ts)) (a : Told) where
-  to_micro : (t : Tlb) → Fits ts t → told a (with_tlb (session_in w) t) ≡ step_of o (session_in (at_tlb w ts))
-      → (ts' : List ℕ) → ts' ≡ put_micro ts t → Steps o (at_tlb w ts) a (at_tlb w ts')
-  to_micro = to_table o (at_tlb w ts) h a ts h.tlb (λ x. x)
+module _ (o : Op) (cs ts : List ℕ) (h : Whole (words cs ts)) (a : Told) where
+  to_micro : (t : Tlb) → Fits ts t → told a (record { cop0 = cop0_in cs; tlb = t }) ≡ step_of o (session_in (words cs ts))
+      → (ts' : List ℕ) → ts' ≡ put_micro ts t → Steps o (words cs ts) a (words cs ts')
+  to_micro = to_table o (words cs ts) h a ts h.tlb (λ x. x)
 
-pub lookup_steps : (κs : Lifetimes.Lfts 1) (a : World.ArgsD lookup.signature κs) (r : Looked) (s : _) (w : Words)
-    → Whole (at_tlb w a.0.now) → lookup_reads.Post κs a r s
-    → Steps (op.Lookup a.1.0 a.1.1.0 a.1.1.1.0) (at_tlb w a.0.now) (ofCase 4 (told_looked r)) (at_tlb w s.0.now)
-lookup_steps κs a r s w h p =
+pub lookup_steps : (κs : Lifetimes.Lfts 1) (a : World.ArgsD lookup.signature κs) (r : Looked) (s : _) (cs : List ℕ)
+    → Whole (words cs a.0.now) → lookup_reads.Post κs a r s
+    → Steps (op.Lookup a.1.0 a.1.1.0 a.1.1.1.0) (words cs a.0.now) (ofCase 4 (told_looked r)) (words cs s.0.now)
+lookup_steps κs a r s cs h p =
     let ts = a.0.now in
-    to_micro _ w ts h _ _ (looked_fits ts a.1.0 a.1.1.0)
-    (ap (λ (x : Told). told (ofCase 4 x) (with_tlb (session_in w) (lookup_table (table_in ts) a.1.0 a.1.1.0)))
+    to_micro _ cs ts h _ _ (looked_fits ts a.1.0 a.1.1.0)
+    (ap (λ (x : Told). told (ofCase 4 x) (record { cop0 = cop0_in cs; tlb = lookup_table (table_in ts) a.1.0 a.1.1.0 }))
     (ap told_looked p.0 ∙ looked_told (lookup_answer (table_in ts) a.1.0 a.1.1.0 a.1.1.1.0)))
     s.0.now p.1
 
-pub itlb_probe_steps : (κs : Lifetimes.Lfts 1) (a : World.ArgsD itlb_probe.signature κs) (r : Bool) (s : _) (w : Words)
-    → Whole (at_tlb w a.0.now) → itlb_probe_reads.Post κs a r s
-    → Steps (op.ItlbProbe a.1.0 a.1.1.0) (at_tlb w a.0.now) (told_bool r) (at_tlb w s.0.now)
-itlb_probe_steps κs a r s w h p =
+pub itlb_probe_steps : (κs : Lifetimes.Lfts 1) (a : World.ArgsD itlb_probe.signature κs) (r : Bool) (s : _) (cs : List ℕ)
+    → Whole (words cs a.0.now) → itlb_probe_reads.Post κs a r s
+    → Steps (op.ItlbProbe a.1.0 a.1.1.0) (words cs a.0.now) (told_bool r) (words cs s.0.now)
+itlb_probe_steps κs a r s cs h p =
     let ts = a.0.now in
-    to_micro _ w ts h _ _ (probed_fits ts a.1.0 a.1.1.0)
-    (ap (λ (x : Bool). flag x (with_tlb (session_in w) (probed_of (table_in ts) a.1.0 a.1.1.0).tlb)) p.0)
+    to_micro _ cs ts h _ _ (probed_fits ts a.1.0 a.1.1.0)
+    (ap (λ (x : Bool). flag x (record { cop0 = cop0_in cs; tlb = (probed_of (table_in ts) a.1.0 a.1.1.0).tlb })) p.0)
     s.0.now p.1
 
-pub itlb_fill_steps : (κs : Lifetimes.Lfts 1) (a : World.ArgsD itlb_fill.signature κs) (r s : _) (w : Words)
-    → Whole (at_tlb w a.0.now) → itlb_fill_reads.Post κs a r s
-    → Steps (op.ItlbFill a.1.0 a.1.1.0) (at_tlb w a.0.now) done (at_tlb w s.0.now)
-itlb_fill_steps κs a r s w h p = to_micro _ w a.0.now h _ _ (filled_fits a.0.now a.1.0 a.1.1.0) refl s.0.now p
+pub itlb_fill_steps : (κs : Lifetimes.Lfts 1) (a : World.ArgsD itlb_fill.signature κs) (r s : _) (cs : List ℕ)
+    → Whole (words cs a.0.now) → itlb_fill_reads.Post κs a r s
+    → Steps (op.ItlbFill a.1.0 a.1.1.0) (words cs a.0.now) done (words cs s.0.now)
+itlb_fill_steps κs a r s cs h p = to_micro _ cs a.0.now h _ _ (filled_fits a.0.now a.1.0 a.1.1.0) refl s.0.now p
 
 -- an entry into the table
-pub write_entry_steps : (κs : Lifetimes.Lfts 2) (a : World.ArgsD write_entry.signature κs) (r s : _) (l : ℕ)
-    → Whole (words a.1.1.0.now a.0.now l) → write_entry_reads.Post κs a r s
-    → Steps (op.WriteEntry a.1.0) (words a.1.1.0.now a.0.now l) done (words a.1.1.0.now s.0.now l)
-write_entry_steps κs a r s l h p =
+pub write_entry_steps : (κs : Lifetimes.Lfts 2) (a : World.ArgsD write_entry.signature κs) (r s : _)
+    → Whole (words a.1.1.0.now a.0.now) → write_entry_reads.Post κs a r s
+    → Steps (op.WriteEntry a.1.0) (words a.1.1.0.now a.0.now) done (words a.1.1.0.now s.0.now)
+write_entry_steps κs a r s h p =
     let ts = a.0.now in
     let c = cop0_in a.1.1.0.now in
     to_table _ _ h _ (put_entry ts (a.1.0 % 32) (entry_of c)) (put_long ts (a.1.0 % 32) (entry_of c) ∙ h.tlb)
@@ -144,17 +143,17 @@ write_entry_steps κs a r s l h p =
     _ (written_fits ts h.tlb a.1.0 c) refl s.0.now p
 
 -- and out of it, into 38 words
-pub read_entry_steps : (κs : Lifetimes.Lfts 2) (a : World.ArgsD read_entry.signature κs) (r s : _) (l : ℕ)
-    → Whole (words a.1.1.0.now a.0.now l) → read_entry_reads.Post κs a r s
-    → Steps (op.ReadEntry a.1.0) (words a.1.1.0.now a.0.now l) done (words s.1.1.0.now a.0.now l)
-read_entry_steps κs a r s l h p =
+pub read_entry_steps : (κs : Lifetimes.Lfts 2) (a : World.ArgsD read_entry.signature κs) (r s : _)
+    → Whole (words a.1.1.0.now a.0.now) → read_entry_reads.Post κs a r s
+    → Steps (op.ReadEntry a.1.0) (words a.1.1.0.now a.0.now) done (words s.1.1.0.now a.0.now)
+read_entry_steps κs a r s h p =
     let cs = a.1.1.0.now in
     to_cop0 _ _ h _ _ (only_fits (in_fits cs h.cop0) (only_read (table_in a.0.now) a.1.0 (cop0_in cs))) refl s.1.1.0.now p
 
-pub probe_steps : (κs : Lifetimes.Lfts 2) (a : World.ArgsD probe.signature κs) (r s : _) (l : ℕ)
-    → Whole (words a.1.0.now a.0.now l) → probe_reads.Post κs a r s
-    → Steps op.Probe (words a.1.0.now a.0.now l) done (words s.1.0.now a.0.now l)
-probe_steps κs a r s l h p =
+pub probe_steps : (κs : Lifetimes.Lfts 2) (a : World.ArgsD probe.signature κs) (r s : _)
+    → Whole (words a.1.0.now a.0.now) → probe_reads.Post κs a r s
+    → Steps op.Probe (words a.1.0.now a.0.now) done (words s.1.0.now a.0.now)
+probe_steps κs a r s h p =
     let cs = a.1.0.now in
     to_cop0 _ _ h _ _ (only_fits (in_fits cs h.cop0) (only_probed (table_in a.0.now) (cop0_in cs))) refl s.1.0.now p
 
@@ -179,15 +178,15 @@ module _ (ws : List ℕ) (v asid : ℕ) (store : Bool) (b : By) where
   unfolding via_table
   stays unnamed = ap (λ (x : Bool). cond x (translate_table t v asid (access_in b)) t) unnamed
 
-pub translate_via_steps : (κs : Lifetimes.Lfts 1) (a : World.ArgsD translate_via.signature κs) (r : Looked) (s : _) (w : Words)
-    → Whole (at_tlb w a.0.now) → is_mode a.1.1.1.1.0.mode ≡ true → translate_via_reads.Post κs a r s
-    → Steps (op.TranslateVia a.1.0 a.1.1.0 a.1.1.1.0 (access_in a.1.1.1.1.0)) (at_tlb w a.0.now)
-    (ofCase 5 (told_translated r)) (at_tlb w s.0.now)
-translate_via_steps κs a r s w h named p =
+pub translate_via_steps : (κs : Lifetimes.Lfts 1) (a : World.ArgsD translate_via.signature κs) (r : Looked) (s : _) (cs : List ℕ)
+    → Whole (words cs a.0.now) → is_mode a.1.1.1.1.0.mode ≡ true → translate_via_reads.Post κs a r s
+    → Steps (op.TranslateVia a.1.0 a.1.1.0 a.1.1.1.0 (access_in a.1.1.1.1.0)) (words cs a.0.now)
+    (ofCase 5 (told_translated r)) (words cs s.0.now)
+translate_via_steps κs a r s cs h named p =
     let ts = a.0.now in
     let b = a.1.1.1.1.0 in
-    to_micro _ w ts h _ _ (translated_fits ts a.1.0 a.1.1.0 (access_in b))
-    (ap (λ (x : Told). told (ofCase 5 x) (with_tlb (session_in w) (translate_table (table_in ts) a.1.0 a.1.1.0 (access_in b))))
+    to_micro _ cs ts h _ _ (translated_fits ts a.1.0 a.1.1.0 (access_in b))
+    (ap (λ (x : Told). told (ofCase 5 x) (record { cop0 = cop0_in cs; tlb = translate_table (table_in ts) a.1.0 a.1.1.0 (access_in b) }))
     (ap told_translated (p.0 ∙ answers ts a.1.0 a.1.1.0 a.1.1.1.0 b named)
     ∙ translated_told (translate_answer (table_in ts) a.1.0 a.1.1.0 a.1.1.1.0 (access_in b))))
     s.0.now (p.1 ∙ ap (put_micro ts) (leaves ts a.1.0 a.1.1.0 a.1.1.1.0 b named))

@@ -134,14 +134,6 @@ use Rattle.rimjhodek.specs.contracts.translation.rimjhodek_translate_via as tran
 use Rattle.rimjhodek.proofs.translation.rimjhodek_translate_via.Reads as translate_via_reads
 use Rattle.rimjhodek.specs.contracts.sessions.rimjhodek_session_new as session_new
 use Rattle.rimjhodek.proofs.sessions.rimjhodek_session_new.Reads as session_new_reads
-use Rattle.rimjhodek.specs.contracts.sessions.rimjhodek_session_eret as session_eret
-use Rattle.rimjhodek.proofs.sessions.rimjhodek_session_eret.Reads as session_eret_reads
-use Rattle.rimjhodek.specs.contracts.sessions.rimjhodek_set_link as set_link
-use Rattle.rimjhodek.proofs.sessions.rimjhodek_set_link.Reads as set_link_reads
-use Rattle.rimjhodek.specs.contracts.sessions.rimjhodek_clear_link as clear_link
-use Rattle.rimjhodek.proofs.sessions.rimjhodek_clear_link.Reads as clear_link_reads
-use Rattle.rimjhodek.specs.contracts.sessions.rimjhodek_link as link
-use Rattle.rimjhodek.proofs.sessions.rimjhodek_link.Reads as link_reads
 
 abbrev planned : Plan → List ℕ → DataPlan
 planned p d = record { plan = p; «data» = d }
@@ -395,24 +387,6 @@ pub translate_via_unique : (κs : Lifetimes.Lfts 1) (a : World.ArgsD translate_v
     → translate_via_reads.Post κs a r s → translate_via_reads.Post κs a r' s' → (r ≡ r') × (s.0.now ≡ s'.0.now)
 translate_via_unique κs a r r' s s' p q = (same p.0 q.0, same p.1 q.1)
 
-pub session_new_unique : (κs : Lifetimes.Lfts 3) (a : World.ArgsD session_new.signature κs) (s s' : _)
-    → session_new_reads.Post κs a tt s → session_new_reads.Post κs a tt s'
-    → (s.0.now ≡ s'.0.now) × (s.1.0.now ≡ s'.1.0.now) × (s.1.1.0.now ≡ s'.1.1.0.now)
-session_new_unique κs a s s' p q = (same p.0 q.0, same p.1 q.1, same p.2 q.2)
-
-pub session_eret_unique : (κs : Lifetimes.Lfts 2) (a : World.ArgsD session_eret.signature κs) (r r' : ℕ) (s s' : _)
-    → session_eret_reads.Post κs a r s → session_eret_reads.Post κs a r' s'
-    → (r ≡ r') × (s.0.now ≡ s'.0.now) × (s.1.0.now ≡ s'.1.0.now)
-session_eret_unique κs a r r' s s' p q = (same p.0 q.0, same p.1 q.1, same p.2 q.2)
-
-pub set_link_unique : (κs : Lifetimes.Lfts 1) (a : World.ArgsD set_link.signature κs) (s s' : _)
-    → set_link_reads.Post κs a tt s → set_link_reads.Post κs a tt s' → s.0.now ≡ s'.0.now
-set_link_unique κs a s s' = same
-
-pub clear_link_unique : (κs : Lifetimes.Lfts 1) (a : World.ArgsD clear_link.signature κs) (s s' : _)
-    → clear_link_reads.Post κs a tt s → clear_link_reads.Post κs a tt s' → s.0.now ≡ s'.0.now
-clear_link_unique κs a s s' = same
-
-pub link_unique : (κs : Lifetimes.Lfts 1) (a : World.ArgsD link.signature κs) (r r' : Bool) (s s' : _)
-    → link_reads.Post κs a r s → link_reads.Post κs a r' s' → r ≡ r'
-link_unique κs a r r' s s' = same
+pub session_new_unique : (κs : Lifetimes.Lfts 2) (a : World.ArgsD session_new.signature κs) (s s' : _)
+    → session_new_reads.Post κs a tt s → session_new_reads.Post κs a tt s' → (s.0.now ≡ s'.0.now) × (s.1.0.now ≡ s'.1.0.now)
+session_new_unique κs a s s' p q = (same p.0 q.0, same p.1 q.1)

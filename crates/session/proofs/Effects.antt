@@ -1,5 +1,5 @@
--- What operations do, in one table: a row for each says whether it is an advance, and what it does to the registers, to the TLB and to
--- the link bit. What holds of registers, or of a TLB, is then kept by every operation if the few kinds of change keep it.
+-- What operations do, in one table: a row for each says whether it is an advance, and what it does to the registers and to the TLB.
+-- What holds of registers, or of a TLB, is then kept by every operation if the few kinds of change keep it.
 use mathlib.Core.Path.{◌≡◌, refl}
 use mathlib.Core.Bool.{Bool}
 use Prim.Native.Nat.{ℕ}
@@ -19,7 +19,6 @@ use Rattle.session.specs.declared.session.Session.{Session}
 use Rattle.session.specs.declared.op.Op.{Op}
 use Rattle.session.specs.declared.op.Op.TheVariants as op
 use Rattle.session.specs.Step.{Outcome, step_by, step_of}
-use Rattle.session.specs.Link.{link_after}
 
 -- what an operation can do to the registers: a move into one, a pending bit, what the hardware sets, an advance
 pub record Registers (P : Cop0 → Type 0) : Type 0 where
@@ -45,46 +44,40 @@ OnRegisters o = (P : Cop0 → Type 0) → Registers P → (s : Session) → P s.
 abbrev OnTable : Op → Type 1
 OnTable o = (Q : Tlb → Type 0) → Tables Q → (s : Session) → Q s.tlb → Q (step_of o s).session.tlb
 
-abbrev OnLink : Op → Type 0
-OnLink o = (s : Session) → (step_of o s).session.link ≡ link_after o s.link
-
 pub data Does : Op → Type 1 where
   an_advance : (n m : ℕ) → Does (op.Advance n m)
-  other : {o : Op} → Apart o → OnRegisters o → OnTable o → OnLink o → Does o
+  other : {o : Op} → Apart o → OnRegisters o → OnTable o → Does o
 
 pub does : (o : Op) → Does o
-does (op.Mfc0 n) = other (λ f g s. refl) (λ P r s p. p) (λ Q t s q. q) (λ s. refl)
-does (op.Dmfc0 n) = other (λ f g s. refl) (λ P r s p. p) (λ Q t s q. q) (λ s. refl)
-does (op.Mtc0 n v) = other (λ f g s. refl) (λ P r s p. r.move s.cop0 p n _) (λ Q t s q. q) (λ s. refl)
-does (op.Dmtc0 n v) = other (λ f g s. refl) (λ P r s p. r.move s.cop0 p n v) (λ Q t s q. q) (λ s. refl)
-does (op.SetIp b on) = other (λ f g s. refl) (λ P r s p. r.pending s.cop0 p b on) (λ Q t s q. q) (λ s. refl)
-does op.InterruptPending = other (λ f g s. refl) (λ P r s p. p) (λ Q t s q. q) (λ s. refl)
+does (op.Mfc0 n) = other (λ f g s. refl) (λ P r s p. p) (λ Q t s q. q)
+does (op.Dmfc0 n) = other (λ f g s. refl) (λ P r s p. p) (λ Q t s q. q)
+does (op.Mtc0 n v) = other (λ f g s. refl) (λ P r s p. r.move s.cop0 p n _) (λ Q t s q. q)
+does (op.Dmtc0 n v) = other (λ f g s. refl) (λ P r s p. r.move s.cop0 p n v) (λ Q t s q. q)
+does (op.SetIp b on) = other (λ f g s. refl) (λ P r s p. r.pending s.cop0 p b on) (λ Q t s q. q)
+does op.InterruptPending = other (λ f g s. refl) (λ P r s p. p) (λ Q t s q. q)
 does (op.Advance n m) = an_advance n m
-does op.IsShutdown = other (λ f g s. refl) (λ P r s p. p) (λ Q t s q. q) (λ s. refl)
-does (op.Entry i) = other (λ f g s. refl) (λ P r s p. p) (λ Q t s q. q) (λ s. refl)
-does (op.PageSize mask) = other (λ f g s. refl) (λ P r s p. p) (λ Q t s q. q) (λ s. refl)
-does (op.PairSize mask) = other (λ f g s. refl) (λ P r s p. p) (λ Q t s q. q) (λ s. refl)
-does (op.Lookup v asid store) = other (λ f g s. refl) (λ P r s p. p) (λ Q t s q. t.looked s.tlb q v asid) (λ s. refl)
-does (op.WriteEntry i) = other (λ f g s. refl) (λ P r s p. p) (λ Q t s q. t.written s.tlb q i s.cop0) (λ s. refl)
+does op.IsShutdown = other (λ f g s. refl) (λ P r s p. p) (λ Q t s q. q)
+does (op.Entry i) = other (λ f g s. refl) (λ P r s p. p) (λ Q t s q. q)
+does (op.PageSize mask) = other (λ f g s. refl) (λ P r s p. p) (λ Q t s q. q)
+does (op.PairSize mask) = other (λ f g s. refl) (λ P r s p. p) (λ Q t s q. q)
+does (op.Lookup v asid store) = other (λ f g s. refl) (λ P r s p. p) (λ Q t s q. t.looked s.tlb q v asid)
+does (op.WriteEntry i) = other (λ f g s. refl) (λ P r s p. p) (λ Q t s q. t.written s.tlb q i s.cop0)
 does (op.ReadEntry i) =
-    other (λ f g s. refl) (λ P r s p. read_entry_by P r.hardware s.tlb i s.cop0 p) (λ Q t s q. q) (λ s. refl)
-does op.Probe = other (λ f g s. refl) (λ P r s p. probe_by P r.hardware s.tlb s.cop0 p) (λ Q t s q. q) (λ s. refl)
-does (op.JtlbHasMatch v asid) = other (λ f g s. refl) (λ P r s p. p) (λ Q t s q. q) (λ s. refl)
-does (op.ItlbProbe v asid) = other (λ f g s. refl) (λ P r s p. p) (λ Q t s q. t.probed s.tlb q v asid) (λ s. refl)
-does (op.ItlbFill v asid) = other (λ f g s. refl) (λ P r s p. p) (λ Q t s q. t.filled s.tlb q v asid) (λ s. refl)
+    other (λ f g s. refl) (λ P r s p. read_entry_by P r.hardware s.tlb i s.cop0 p) (λ Q t s q. q)
+does op.Probe = other (λ f g s. refl) (λ P r s p. probe_by P r.hardware s.tlb s.cop0 p) (λ Q t s q. q)
+does (op.JtlbHasMatch v asid) = other (λ f g s. refl) (λ P r s p. p) (λ Q t s q. q)
+does (op.ItlbProbe v asid) = other (λ f g s. refl) (λ P r s p. p) (λ Q t s q. t.probed s.tlb q v asid)
+does (op.ItlbFill v asid) = other (λ f g s. refl) (λ P r s p. p) (λ Q t s q. t.filled s.tlb q v asid)
 does (op.TranslateVia v asid store a) =
-    other (λ f g s. refl) (λ P r s p. p) (λ Q t s q. translate_by Q s.tlb v asid a q (t.looked s.tlb q v asid)) (λ s. refl)
+    other (λ f g s. refl) (λ P r s p. p) (λ Q t s q. translate_by Q s.tlb v asid a q (t.looked s.tlb q v asid))
 does (op.Dispatch e pc slot bad) =
-    other (λ f g s. refl) (λ P r s p. dispatch_by P r.hardware s.cop0 p e pc slot bad) (λ Q t s q. q) (λ s. refl)
-does op.Eret = other (λ f g s. refl) (λ P r s p. eret_by P r.hardware s.cop0 p) (λ Q t s q. q) (λ s. refl)
-does op.SetLink = other (λ f g s. refl) (λ P r s p. p) (λ Q t s q. q) (λ s. refl)
-does op.ClearLink = other (λ f g s. refl) (λ P r s p. p) (λ Q t s q. q) (λ s. refl)
-does op.Link = other (λ f g s. refl) (λ P r s p. p) (λ Q t s q. q) (λ s. refl)
+    other (λ f g s. refl) (λ P r s p. dispatch_by P r.hardware s.cop0 p e pc slot bad) (λ Q t s q. q)
+does op.Eret = other (λ f g s. refl) (λ P r s p. eret_by P r.hardware s.cop0 p) (λ Q t s q. q)
 
 -- an invariant of the registers is four laws
 by_registers : {P : Cop0 → Type 0} → Registers P → {o : Op} → Does o → (s : Session) → P s.cop0 → P (step_of o s).session.cop0
 by_registers r (an_advance n m) s p = r.advance s.cop0 p n m
-by_registers {P} r (other same registers table link) s p = registers P r s p
+by_registers {P} r (other same registers table) s p = registers P r s p
 
 pub step_registers : {P : Cop0 → Type 0} → Registers P → (o : Op) (s : Session) → P s.cop0 → P (step_of o s).session.cop0
 step_registers r o s p = by_registers r (does o) s p
@@ -92,15 +85,7 @@ step_registers r o s p = by_registers r (does o) s p
 -- and so is one of the TLB, which no advance touches
 by_table : {Q : Tlb → Type 0} → Tables Q → {o : Op} → Does o → (s : Session) → Q s.tlb → Q (step_of o s).session.tlb
 by_table t (an_advance n m) s q = q
-by_table {Q} t (other same registers table link) s q = table Q t s q
+by_table {Q} t (other same registers table) s q = table Q t s q
 
 pub step_tables : {Q : Tlb → Type 0} → Tables Q → (o : Op) (s : Session) → Q s.tlb → Q (step_of o s).session.tlb
 step_tables t o s q = by_table t (does o) s q
-
--- the link bit is as the table of `Link` says, which no advance touches either
-by_link : {o : Op} → Does o → (s : Session) → (step_of o s).session.link ≡ link_after o s.link
-by_link (an_advance n m) s = refl
-by_link (other same registers table link) s = link s
-
-pub step_link : (o : Op) (s : Session) → (step_of o s).session.link ≡ link_after o s.link
-step_link o s = by_link (does o) s

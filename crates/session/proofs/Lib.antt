@@ -1,7 +1,6 @@
 pub mod Answers
 pub mod Unique
 pub mod Effects
-pub mod Links
 pub mod Keeping
 pub mod Made
 pub mod Calls

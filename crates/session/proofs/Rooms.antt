@@ -52,21 +52,13 @@ module _ (s : Session) (k : Steady s.cop0) (n m : ℕ) where
   moves_are : n < 2 ^ 32 → advance_of c n m ≡ steps m (ticks n c)
   moves_are h = advance_is c k.kept n m h ∙ ap (λ (d : Cop0). steps m (ticks n d)) (steady_six c k)
 
-  below : ltb n (2 ^ 32) ≡ true → n < 2 ^ 32
-  below e = ltb→lt n (2 ^ 32) (subst T (sym e) tt)
-
-  answer_plain : (b : Bool) → ltb n (2 ^ 32) ≡ b → (advance_by n m s).answer ≡ cond b (answered (7 ∷ edges n c ∷ [])) (refused 5)
-  answer_plain true e = ap (ofCase 7) (answer_is c k.kept n m (below e))
-  answer_plain false e = ap (ofCase 7) (answer_refused c n m e)
-
-  session_plain : (b : Bool) → ltb n (2 ^ 32) ≡ b → (advance_by n m s).session ≡ cond b (with_cop0 s (steps m (ticks n c))) s
-  session_plain true e = ap (with_cop0 s) (moves_are (below e))
-  session_plain false e = ap (with_cop0 s) (advance_refused c n m e)
-
   by_limit : (b : Bool) → ltb n (2 ^ 32) ≡ b
       → advance_by n m s ≡ cond b (told (answered (7 ∷ edges n c ∷ [])) (with_cop0 s (steps m (ticks n c)))) (told (refused 5) s)
-  by_limit true e = ap₂ told (answer_plain true e) (session_plain true e)
-  by_limit false e = ap₂ told (answer_plain false e) (session_plain false e)
+  by_limit true e =
+      let h : n < 2 ^ 32 = ltb→lt n (2 ^ 32) (subst T (sym e) tt) in
+      ap₂ (λ (t : Told) (d : Cop0). told (ofCase 7 t) (with_cop0 s d)) (answer_is c k.kept n m h) (moves_are h)
+  by_limit false e =
+      ap₂ (λ (t : Told) (d : Cop0). told (ofCase 7 t) (with_cop0 s d)) (answer_refused c n m e) (advance_refused c n m e)
 
   advance_plain : advance_by n m s ≡ plain_advance n m s
   unfolding plain_advance
@@ -75,7 +67,7 @@ module _ (s : Session) (k : Steady s.cop0) (n m : ℕ) where
 -- and no other operation goes by the rule for advances
 by_rule : {o : Op} → Does o → (s : Session) → Steady s.cop0 → step_of o s ≡ step_by plain_advance o s
 by_rule (an_advance n m) s k = advance_plain s k n m
-by_rule (other same registers table link) s k = same advance_by plain_advance s
+by_rule (other same registers table) s k = same advance_by plain_advance s
 
 step_plain : (o : Op) (s : Session) → Steady s.cop0 → step_of o s ≡ step_by plain_advance o s
 step_plain o s k = by_rule (does o) s k

@@ -31,9 +31,6 @@ use Rattle.session.proofs.session.Session.itlb_fill.Reads as itlb_fill
 use Rattle.session.proofs.session.Session.translate_via.Reads as translate_via
 use Rattle.session.proofs.session.Session.dispatch.Reads as dispatch
 use Rattle.session.proofs.session.Session.eret.Reads as eret
-use Rattle.session.proofs.session.Session.set_link.Reads as set_link
-use Rattle.session.proofs.session.Session.clear_link.Reads as clear_link
-use Rattle.session.proofs.session.Session.link.Reads as link
 use Rattle.session.proofs.session.Session.step.Reads as step
 
 pub new_unique : (a : Unit {0}) (r r' : Session) → new.Post tt a r a → new.Post tt a r' a → r ≡ r'
@@ -116,15 +113,6 @@ dispatch_unique a r r' p q = outcome-one r r' (same p q)
 
 pub eret_unique : (a : Session × Unit {0}) (r r' : Stepped) → eret.Post tt a r a → eret.Post tt a r' a → r ≡ r'
 eret_unique a r r' p q = outcome-one r r' (same p q)
-
-pub set_link_unique : (a : Session × Unit {0}) (r r' : Stepped) → set_link.Post tt a r a → set_link.Post tt a r' a → r ≡ r'
-set_link_unique a r r' p q = outcome-one r r' (same p q)
-
-pub clear_link_unique : (a : Session × Unit {0}) (r r' : Stepped) → clear_link.Post tt a r a → clear_link.Post tt a r' a → r ≡ r'
-clear_link_unique a r r' p q = outcome-one r r' (same p q)
-
-pub link_unique : (a : Session × Unit {0}) (r r' : Stepped) → link.Post tt a r a → link.Post tt a r' a → r ≡ r'
-link_unique a r r' p q = outcome-one r r' (same p q)
 
 pub step_unique : (a : Session × (Op × Unit {0})) (r r' : Stepped) → step.Post tt a r a → step.Post tt a r' a → r ≡ r'
 step_unique a r r' p q = outcome-one r r' (same p q)

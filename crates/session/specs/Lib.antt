@@ -1,7 +1,6 @@
 pub mod Record
 pub mod Answers
 pub mod Step
-pub mod Link
 pub mod Run
 pub mod Plain
 pub mod Made

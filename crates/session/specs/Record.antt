@@ -1,5 +1,4 @@
--- The session's record: one register file, one TLB, and the link bit.
-use Rattle.std.specs.Prelude.{Bool, false}
+-- The session's record: one register file and one TLB.
 use Rattle.cop0.specs.declared.registers.Cop0.{Cop0}
 use Rattle.cop0.specs.Record as registers
 use Rattle.tlb.specs.declared.table.Tlb.{Tlb}
@@ -7,13 +6,10 @@ use Rattle.tlb.specs.Table.{fresh_table}
 use Rattle.session.specs.declared.session.Session.{Session}
 
 abbrev pub fresh : Session
-fresh = record { cop0 = registers.fresh; tlb = fresh_table; link = false }
+fresh = record { cop0 = registers.fresh; tlb = fresh_table }
 
 abbrev pub with_cop0 : Session → Cop0 → Session
-with_cop0 s c = record { cop0 = c; tlb = s.tlb; link = s.link }
+with_cop0 s c = record { cop0 = c; tlb = s.tlb }
 
 abbrev pub with_tlb : Session → Tlb → Session
-with_tlb s t = record { cop0 = s.cop0; tlb = t; link = s.link }
-
-abbrev pub with_link : Session → Bool → Session
-with_link s b = record { cop0 = s.cop0; tlb = s.tlb; link = b }
+with_tlb s t = record { cop0 = s.cop0; tlb = t }

@@ -1,6 +1,6 @@
 -- What each operation of a session answers, and the session that it leaves: one row for each, by the definitions of the
--- register file, the TLB, the segments, the exceptions and the link bit.
-use Rattle.std.specs.Prelude.{Bool, true, false, [], ◌∷◌, ℕ, ◌%◌}
+-- register file, the TLB, the segments and the exceptions.
+use Rattle.std.specs.Prelude.{Bool, [], ◌∷◌, ℕ, ◌%◌}
 use Rattle.bits.specs.Field.{bit}
 use Rattle.bits.specs.Told.{Told, answered}
 use Rattle.cop0.specs.declared.registers.Cop0.{Cop0}
@@ -23,7 +23,7 @@ use Rattle.session.specs.declared.session.Stepped.{Stepped}
 use Rattle.session.specs.declared.op.Op.{Op}
 use Rattle.session.specs.declared.op.Op.TheVariants as op
 use Rattle.session.specs.declared.op.Answer.TheVariants as answer
-use Rattle.session.specs.Record.{with_cop0, with_tlb, with_link}
+use Rattle.session.specs.Record.{with_cop0, with_tlb}
 use Rattle.session.specs.Answers.{toldAnswer, ofCase, done, number}
 
 -- an answer and the session after it
@@ -74,10 +74,7 @@ step_by advance (op.TranslateVia v asid store a) s =
 step_by advance (op.Dispatch e pc slot bad) s =
     let r : Dispatched = dispatch_of s.cop0 e pc slot bad in
     told (toldAnswer (answer.Vector r.dispatch)) (with_cop0 s r.cop0)
-step_by advance op.Eret s = told (number (eret_of s.cop0).pc) (with_link (with_cop0 s (eret_of s.cop0).cop0) false)
-step_by advance op.SetLink s = told done (with_link s true)
-step_by advance op.ClearLink s = told done (with_link s false)
-step_by advance op.Link s = flag s.link s
+step_by advance op.Eret s = told (number (eret_of s.cop0).pc) (with_cop0 s (eret_of s.cop0).cop0)
 
 -- the register file's advance
 abbrev pub advance_by : ℕ → ℕ → Session → Outcome

@@ -18,15 +18,13 @@ impl Session {
         self.with_cop0(after).tells(Answer::Vector(dispatch))
     }
 
-    // `ERET`: answers where to resume, and ends the link (3.1), whichever bit of Status it clears.
+    // `ERET`: answers where to resume.
     pub fn eret(self) -> Stepped
         ensures { outcome result ≡ step_of Eret self }
     {
         let returned = exception::eret(self.cop0);
         let pc = returned.pc;
         let after = returned.cop0;
-        self.with_cop0(after)
-            .with_link(false)
-            .tells(Answer::Number(pc))
+        self.with_cop0(after).tells(Answer::Number(pc))
     }
 }

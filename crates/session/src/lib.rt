@@ -1,7 +1,6 @@
-// A room member's state: the registers, the TLB and the link bit together, and the operations that a room's inputs are made of.
+// A room member's state: the registers and the TLB together, and the operations that a room's inputs are made of.
 mod clock;
 mod exceptions;
-mod link;
 mod op;
 mod registers;
 mod session;

@@ -31,9 +31,6 @@ pub enum Op {
     // The exception, the address of its instruction, whether that stands in a delay slot, and the faulting address.
     Dispatch(Exception, u64, bool, u64),
     Eret,
-    SetLink,
-    ClearLink,
-    Link,
 }
 
 #[derive(Drop)]

@@ -1,6 +1,6 @@
 // The session's record.
 ghost use Rattle.std.specs.Prelude.{◌≡◌};
-ghost use Rattle.session.specs.Record.{fresh, with_cop0, with_tlb, with_link};
+ghost use Rattle.session.specs.Record.{fresh, with_cop0, with_tlb};
 ghost use Rattle.session.specs.Answers.{toldAnswer};
 ghost use Rattle.session.specs.Step.{outcome, told};
 
@@ -13,8 +13,6 @@ use tlb::Tlb;
 pub struct Session {
     pub cop0: Cop0,
     pub tlb: Tlb,
-    // The manual's LLbit (3.1): a host's SC stores where it is on.
-    pub link: bool,
 }
 
 // An operation's answer, and the session after it.
@@ -32,7 +30,6 @@ impl Session {
         Session {
             cop0: Cop0::new(),
             tlb: Tlb::new(),
-            link: false,
         }
     }
 
@@ -47,13 +44,6 @@ impl Session {
         ensures { result ≡ with_tlb self tlb }
     {
         self.tlb = tlb;
-        self
-    }
-
-    pub(crate) fn with_link(mut self, link: bool) -> Session
-        ensures { result ≡ with_link self link }
-    {
-        self.link = link;
         self
     }
 

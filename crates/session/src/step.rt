@@ -34,9 +34,6 @@ impl Session {
             }
             Op::Dispatch(exc, pc, slot, bad_vaddr) => self.dispatch(exc, pc, slot, bad_vaddr),
             Op::Eret => self.eret(),
-            Op::SetLink => self.set_link(),
-            Op::ClearLink => self.clear_link(),
-            Op::Link => self.link(),
         }
     }
 }

@@ -11,7 +11,7 @@ use crate::rng::Rng;
 const BETWEEN_STATES: u64 = 40;
 
 /// The operations of a session.
-const SESSION: [&str; 24] = [
+const SESSION: [&str; 21] = [
     "mfc0",
     "dmfc0",
     "mtc0",
@@ -33,9 +33,6 @@ const SESSION: [&str; 24] = [
     "translate_via",
     "dispatch",
     "eret",
-    "set_link",
-    "clear_link",
-    "link",
 ];
 
 pub struct Draft {

@@ -1,6 +1,5 @@
 //! Traces that go through all of something about exceptions.
 
-use oracle::operations::OPERATIONS;
 use original::cop0::reg;
 
 use crate::aim::bits;
@@ -138,29 +137,6 @@ pub fn every_return(draft: &mut Draft) {
                 draft.put("eret", &[]);
                 read(draft, reg::STATUS);
             }
-        }
-    }
-}
-
-/// The link bit, on and off, after each operation, its operands all 0; after each exception; and
-/// after a return under each EXL, ERL and BEV.
-pub fn every_link(draft: &mut Draft) {
-    for link in ["set_link", "clear_link"] {
-        for row in OPERATIONS {
-            draft.put(link, &[]);
-            draft.put(row.name, &vec![0; row.operands.len()]);
-            draft.put("link", &[]);
-        }
-        for exception in exceptions::all() {
-            draft.put(link, &[]);
-            dispatch(draft, exception, 0x40, 0, 0);
-            draft.put("link", &[]);
-        }
-        for status in statuses() {
-            set(draft, reg::STATUS, status);
-            draft.put(link, &[]);
-            draft.put("eret", &[]);
-            draft.put("link", &[]);
         }
     }
 }

@@ -53,7 +53,7 @@ pub const BOUNDS: [u64; 10] =
     [0x1FFF, 1 << 13, 1 << 31, 1 << 32, 1 << 39, 1 << 40, 1 << 61, 1 << 62, 1 << 63, u64::MAX];
 
 /// How often each move is made, against the others.
-const MOVES: [(u64, Move); 17] = [
+const MOVES: [(u64, Move); 16] = [
     (40, take),
     (16, nest),
     (24, handle),
@@ -66,7 +66,6 @@ const MOVES: [(u64, Move); 17] = [
     (16, interrupt),
     (20, fail),
     (6, boot),
-    (16, lock),
     (4, translation::write_apart),
     (6, translation::lookup),
     (2, translation::probe),
@@ -307,24 +306,6 @@ fn boot(draft: &mut Draft) {
         draft.put("mtc0", &[reg::STATUS.into(), status & !ERL]);
     }
     fetch(draft, vaddr);
-}
-
-/// A lock as a game takes it: LL, which sets the link bit, and SC, which asks for it. What happens
-/// between the two takes the lock away where it ends in a return, and the game tries again.
-fn lock(draft: &mut Draft) {
-    const BETWEEN: [Move; 8] =
-        [take, handle, take_nmi, give_back, levels, interrupt, fail, mixed::advance];
-    draft.put("set_link", &[]);
-    for _ in 0..draft.rng.below(3) {
-        draft.rng.pick(&BETWEEN)(draft);
-    }
-    draft.put("link", &[]);
-    if draft.rng.one_in(4) {
-        draft.put("clear_link", &[]);
-    } else if !draft.machine.link {
-        draft.put("set_link", &[]);
-    }
-    draft.put("link", &[]);
 }
 
 /// A translation by the access that Status asks for, if it asks for one.

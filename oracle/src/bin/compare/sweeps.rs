@@ -7,7 +7,7 @@ use crate::rng::Rng;
 use crate::{addresses, aim, cache_sweeps, exception_sweeps, exceptions};
 
 /// Those of one trace.
-const SINGLE: [fn(&mut Draft); 25] = [
+const SINGLE: [fn(&mut Draft); 24] = [
     every_number,
     every_interrupt,
     every_edge,
@@ -23,7 +23,6 @@ const SINGLE: [fn(&mut Draft); 25] = [
     exception_sweeps::every_nesting,
     exception_sweeps::every_nmi,
     exception_sweeps::every_return,
-    exception_sweeps::every_link,
     cache_sweeps::every_length,
     cache_sweeps::every_word,
     cache_sweeps::every_value_bit,

@@ -129,24 +129,6 @@ enum-told-4 c = search rules
 eret-requires : tie.Need-eret-requires
 eret-requires c κs = search rules
 
-enum-told-5 : tie.Need-enum-told-5
-enum-told-5 c = search rules
-
-set-link-requires : tie.Need-set-link-requires
-set-link-requires c κs = search rules
-
-enum-told-6 : tie.Need-enum-told-6
-enum-told-6 c = search rules
-
-clear-link-requires : tie.Need-clear-link-requires
-clear-link-requires c κs = search rules
-
-enum-told-7 : tie.Need-enum-told-7
-enum-told-7 c = search rules
-
-link-requires : tie.Need-link-requires
-link-requires c κs = search rules
-
 returns : tie.Need-returns
 returns c = rw c.before.before.op.given.1 c.mfc0.ensures
 
@@ -210,15 +192,6 @@ returns-20 c = rw c.before.before.op17.given.1 c.dispatch.ensures
 returns-21 : tie.Need-returns-21
 returns-21 c = rw c.before.enum-told4.given.1 c.eret.ensures
 
-returns-22 : tie.Need-returns-22
-returns-22 c = rw c.before.enum-told5.given.1 c.set_link.ensures
-
-returns-23 : tie.Need-returns-23
-returns-23 c = rw c.before.enum-told6.given.1 c.clear-link.ensures
-
-returns-24 : tie.Need-returns-24
-returns-24 c = rw c.before.enum-told7.given.1 c.link.ensures
-
 pub step_spec : {M : Type 1} → statement M
 step_spec =
     tie.close
@@ -265,12 +238,6 @@ step_spec =
     dispatch-requires
     enum-told-4
     eret-requires
-    enum-told-5
-    set-link-requires
-    enum-told-6
-    clear-link-requires
-    enum-told-7
-    link-requires
     returns
     returns-2
     returns-3
@@ -291,7 +258,4 @@ step_spec =
     returns-18
     returns-19
     returns-20
-    returns-21
-    returns-22
-    returns-23
-    returns-24)
+    returns-21)
