@@ -1,4 +1,6 @@
 // Virtual to physical: the segments of each mode, the access that Status asks for, and translation through the TLB.
+#![tactic(auto)]
+
 mod access;
 mod segments;
 mod translate;

@@ -1,4 +1,6 @@
 // Fields and masks of a word: the few operations on bits that every crate shares.
+#![tactic(auto)]
+
 mod extension;
 mod fields;
 mod masks;

@@ -1,4 +1,6 @@
 // COP0, the VR4300's system control coprocessor: its register file.
+#![tactic(auto)]
+
 mod access;
 mod advance;
 mod clock;

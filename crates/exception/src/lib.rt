@@ -1,4 +1,6 @@
 // Exceptions: their codes and vectors, and what taking one and returning from one do to the registers.
+#![tactic(auto)]
+
 mod epilogue;
 pub mod exc_code;
 mod kinds;

@@ -1,5 +1,7 @@
 // Lends the caches parts of the wrong length, which no trace can lend, and writes how each operation answers: the number of its
 // refusal, or 0. `stdout` has what it must write. At the end it says whether a byte or a word has changed.
+#![tactic(auto)]
+
 use cache::{Asked, Done, PlanAnswer, Value, WritebackAnswer, dcache, icache};
 
 fn main() {

@@ -6,6 +6,8 @@
 // `session::Session::step` (`session_step`), others ask or write the session's registers (`register_step`). The caches' are in
 // `cache_step`. What is `told` becomes text in `answer`, and `output` holds the text until there is much to write; `state` tells
 // the session whole.
+#![tactic(auto)]
+
 mod answer;
 mod cache_answers;
 mod cache_step;

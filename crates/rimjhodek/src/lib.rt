@@ -1,4 +1,6 @@
 // What other languages link: each operation over state that the caller owns and lends as plain words.
+#![tactic(auto)]
+
 mod answers;
 mod clock;
 mod dcache;

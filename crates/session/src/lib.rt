@@ -1,4 +1,6 @@
 // A room member's state: the registers and the TLB together, and the operations that a room's inputs are made of.
+#![tactic(auto)]
+
 mod clock;
 mod exceptions;
 mod op;

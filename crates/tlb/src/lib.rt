@@ -1,4 +1,6 @@
 // The joint TLB and its instruction micro-TLB.
+#![tactic(auto)]
+
 mod entries;
 mod micro;
 mod moves;
