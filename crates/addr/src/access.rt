@@ -4,14 +4,14 @@ ghost use Rattle.addr.specs.Access.{kernel_access, in_mode, is_kernel_of, access
 ghost use Rattle.addr.specs.Answers.{toldAccess};
 
 // The privilege mode an access is made in.
-#[derive(Drop)]
+#[derive(Clone, Copy)]
 pub enum Mode {
     Kernel,
     Supervisor,
     User,
 }
 
-#[derive(Drop)]
+#[derive(Clone, Copy)]
 pub struct Access {
     pub mode: Mode,
     // Status.KX, SX or UX: the bit of this mode. One flag rather than three, since only this one ever applies.
@@ -21,7 +21,7 @@ pub struct Access {
 }
 
 // The access that Status asks for, or the number of the refusal.
-#[derive(Drop)]
+#[derive(Clone, Copy)]
 pub enum AccessAnswer {
     Of(Access),
     Refused(u8),

@@ -7,14 +7,14 @@ use crate::access::{Access, Mode};
 
 // Whether an access goes through the caches. The segment decides it, and it cannot be told from a physical address later:
 // KSEG0 and KSEG1 have both become the same number.
-#[derive(Drop)]
+#[derive(Clone, Copy)]
 pub enum Cached {
     Yes,
     No,
 }
 
 // How an address of a segment is reached.
-#[derive(Drop)]
+#[derive(Clone, Copy)]
 pub enum Segment {
     // Without the TLB.
     Direct { addr: u32, cached: Cached },

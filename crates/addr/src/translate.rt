@@ -7,7 +7,7 @@ use crate::access::Access;
 use crate::segments::{Cached, Segment};
 use tlb::{LookupAnswer, Tlb, TlbFault};
 
-#[derive(Drop)]
+#[derive(Clone, Copy)]
 pub struct Physical {
     pub addr: u32,
     pub cached: Cached,
@@ -16,7 +16,7 @@ pub struct Physical {
 }
 
 // Why a translation failed. Two cases, since they raise different exceptions from different vectors.
-#[derive(Drop)]
+#[derive(Clone, Copy)]
 pub enum TranslateError {
     // Not an address of the access's mode.
     Address,
@@ -24,13 +24,13 @@ pub enum TranslateError {
     Tlb(TlbFault),
 }
 
-#[derive(Drop)]
+#[derive(Clone, Copy)]
 pub enum TranslateAnswer {
     At(Physical),
     Failed(TranslateError),
 }
 
-#[derive(Drop)]
+#[derive(Clone, Copy)]
 pub struct Translation {
     pub answer: TranslateAnswer,
     pub tlb: Tlb,

@@ -43,7 +43,7 @@ impl Cop0 {
 }
 
 // The access forms.
-#[derive(Drop)]
+#[derive(Clone, Copy)]
 pub enum Cop0Op {
     Mfc0,
     Dmfc0,
@@ -52,7 +52,7 @@ pub enum Cop0Op {
 }
 
 // What an rs field names, or the number of the refusal.
-#[derive(Drop)]
+#[derive(Clone, Copy)]
 pub enum FromRs {
     Op(Cop0Op),
     Refused(u8),

@@ -5,14 +5,14 @@ ghost use Rattle.cop0.specs.Advance.{told_advance, advance_told, advance_of};
 use crate::registers::Cop0;
 
 // Whether the timer had an edge, or the number of the refusal.
-#[derive(Drop)]
+#[derive(Clone, Copy)]
 pub enum AdvanceAnswer {
     Edge(bool),
     Refused(u8),
 }
 
 // The answer, and the record after it.
-#[derive(Drop)]
+#[derive(Clone, Copy)]
 pub struct Advanced {
     pub answer: AdvanceAnswer,
     pub cop0: Cop0,

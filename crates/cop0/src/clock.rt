@@ -6,7 +6,7 @@ ghost use Rattle.cop0.specs.Clock.{count_of, compare_of, to_compare, timer_match
 use crate::registers::Cop0;
 
 // What the timer answered, and the record with the last-asked mark moved.
-#[derive(Drop)]
+#[derive(Clone, Copy)]
 pub struct Polled {
     pub edge: bool,
     pub cop0: Cop0,

@@ -6,7 +6,7 @@ use crate::advance::AdvanceAnswer;
 use crate::registers::Cop0;
 
 // An advance, with its answer as a number.
-#[derive(Drop)]
+#[derive(Clone, Copy)]
 struct Coded {
     code: u8,
     cop0: Cop0,
@@ -15,7 +15,8 @@ struct Coded {
 // `Cop0::advance` that changes the record where it stands, so that it need not pass through the call. Answers 0 for no edge, 1
 // for an edge, or the number of the refusal.
 pub fn advance_in_place(c: &mut Cop0, counts: u64, steps: u64) -> u8
-    ensures { (result ≡ advance_code c.entry.now counts steps) × (c.exit.now ≡ advance_of c.entry.now counts steps) }
+    ensures value { result ≡ advance_code c.old counts steps }
+    ensures c_after { c.new ≡ advance_of c.old counts steps }
 {
     let after = advance_coded(*c, counts, steps);
     *c = after.cop0;

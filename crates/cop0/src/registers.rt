@@ -6,7 +6,7 @@ ghost use Rattle.cop0.specs.File.{read_of, write_of, set_hardware_of};
 
 // The VR4300's system control coprocessor: its register file.
 #[repr(C)]
-#[derive(Drop)]
+#[derive(Clone, Copy)]
 pub struct Cop0 {
     // The registers as stored. `read` and `write` apply the masks that make them architectural.
     // Config's wired bits are not stored: they are joined on a read, so that no write can erase them.

@@ -4,14 +4,14 @@ ghost use Rattle.digits.specs.Reading.{within, digit_told, number_told};
 ghost use Rattle.digits.specs.Answers.{toldDigit, told_number};
 
 // A digit's value, if the byte is one.
-#[derive(Drop)]
+#[derive(Clone, Copy)]
 pub enum DigitAnswer {
     Of(u8),
     None,
 }
 
 // A word's number, if it writes one.
-#[derive(Drop)]
+#[derive(Clone, Copy)]
 pub enum Number {
     Value(u64),
     Bad,

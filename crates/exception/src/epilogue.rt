@@ -7,7 +7,7 @@ use crate::kinds::Exception;
 use cop0::Cop0;
 
 #[repr(C)]
-#[derive(Drop)]
+#[derive(Clone, Copy)]
 pub struct Dispatch {
     // Where to fetch next.
     pub vector: u64,
@@ -16,7 +16,7 @@ pub struct Dispatch {
 }
 
 // The dispatch, and the registers after it.
-#[derive(Drop)]
+#[derive(Clone, Copy)]
 pub struct Dispatched {
     pub dispatch: Dispatch,
     pub cop0: Cop0,

@@ -6,7 +6,7 @@ ghost use Rattle.exception.specs.Vectors.{kind_number};
 use crate::exc_code;
 use crate::vectors::VectorKind;
 
-#[derive(Drop)]
+#[derive(Clone, Copy)]
 pub enum Exception {
     // An interrupt was accepted: a pending bit is not masked, IE is 1, EXL and ERL are 0.
     Interrupt,

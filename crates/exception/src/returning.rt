@@ -5,7 +5,7 @@ ghost use Rattle.exception.specs.Returning.{eret_of};
 use cop0::Cop0;
 
 // Where to resume, and the registers after the return.
-#[derive(Drop)]
+#[derive(Clone, Copy)]
 pub struct Returned {
     pub pc: u64,
     pub cop0: Cop0,

@@ -3,7 +3,7 @@ ghost use Rattle.std.specs.Prelude.{◌≡◌};
 ghost use Rattle.exception.specs.Vectors.{is_reset, base_of, refill_offset_of, vector_of};
 
 // Which vector an exception uses.
-#[derive(Drop)]
+#[derive(Clone, Copy)]
 pub enum VectorKind {
     // The common vector.
     General,

@@ -9,14 +9,14 @@ use tags::{tag_array, tag_word};
 
 // Yes or no.
 #[repr(C)]
-#[derive(Drop)]
+#[derive(Clone, Copy)]
 pub struct Flag {
     pub refused: u8,
     pub is: bool,
 }
 
 #[repr(C)]
-#[derive(Drop)]
+#[derive(Clone, Copy)]
 pub struct Number {
     pub refused: u8,
     pub value: u64,
@@ -24,7 +24,7 @@ pub struct Number {
 
 // What an access must do first: 0 nothing, 1 fill the line, 2 write the line back to `addr` and then fill it.
 #[repr(C)]
-#[derive(Drop)]
+#[derive(Clone, Copy)]
 pub struct Plan {
     pub refused: u8,
     pub plan: u8,
@@ -33,7 +33,7 @@ pub struct Plan {
 
 // Whether a line is to be written back, and to which address.
 #[repr(C)]
-#[derive(Drop)]
+#[derive(Clone, Copy)]
 pub struct Eviction {
     pub refused: u8,
     pub evict: bool,

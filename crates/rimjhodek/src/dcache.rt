@@ -13,7 +13,7 @@ use tags::tag_word;
 
 // What an access must do first, and the bytes of the line that is evicted, or zero.
 #[repr(C)]
-#[derive(Drop)]
+#[derive(Clone, Copy)]
 pub struct DataPlan {
     pub plan: Plan,
     pub data: [u8; 16],
@@ -21,7 +21,7 @@ pub struct DataPlan {
 
 // Whether a line is to be written back, and its bytes, or zero.
 #[repr(C)]
-#[derive(Drop)]
+#[derive(Clone, Copy)]
 pub struct DataLine {
     pub eviction: Eviction,
     pub data: [u8; 16],

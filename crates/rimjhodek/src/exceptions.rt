@@ -20,7 +20,7 @@ use exception::{EPILOGUE_STALL, Exception, VectorKind};
 
 // An exception by its number, in `Exception`'s order from 0, with the values that some of them hold.
 #[repr(C)]
-#[derive(Drop)]
+#[derive(Clone, Copy)]
 pub struct Exc {
     pub number: u8,
     pub store: bool,
@@ -30,7 +30,7 @@ pub struct Exc {
 
 // Where to fetch next, and the pipeline's cycles that the exception costs.
 #[repr(C)]
-#[derive(Drop)]
+#[derive(Clone, Copy)]
 pub struct Taken {
     pub refused: u8,
     pub stall_cycles: u32,

@@ -13,7 +13,7 @@ use tags::tag_word;
 
 // Whether a line is to be written back, and its bytes, or zero.
 #[repr(C)]
-#[derive(Drop)]
+#[derive(Clone, Copy)]
 pub struct InstructionLine {
     pub eviction: Eviction,
     pub data: [u8; 32],

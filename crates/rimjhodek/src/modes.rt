@@ -11,7 +11,7 @@ use addr::{Access, AccessAnswer, Cached, Mode, Segment};
 
 // How an access is made. A mode's number is its KSU: 0 is kernel, 1 supervisor, 2 user.
 #[repr(C)]
-#[derive(Drop)]
+#[derive(Clone, Copy)]
 pub struct By {
     pub mode: u8,
     pub wide: bool,
@@ -20,7 +20,7 @@ pub struct By {
 
 // The access that Status asks for; where it is refused the refusal's number, and all else is 0.
 #[repr(C)]
-#[derive(Drop)]
+#[derive(Clone, Copy)]
 pub struct Granted {
     pub refused: u8,
     pub mode: u8,
@@ -30,7 +30,7 @@ pub struct Granted {
 
 // How an address is reached. `kind` is 0 for directly, 1 by the TLB, 2 not at all.
 #[repr(C)]
-#[derive(Drop)]
+#[derive(Clone, Copy)]
 pub struct Reached {
     pub refused: u8,
     pub kind: u8,

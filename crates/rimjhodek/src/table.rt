@@ -13,7 +13,7 @@ use tlb::Tlb;
 // Where an address leads. `error` is 0 where there is an address, else 1 for Refill, 2 for Invalid, 3 for Modified and, of a
 // translation, 4 for an address error and 255 for a number that names no mode.
 #[repr(C)]
-#[derive(Drop)]
+#[derive(Clone, Copy)]
 pub struct Looked {
     pub error: u8,
     pub uncached: bool,

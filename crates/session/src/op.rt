@@ -5,7 +5,7 @@ use exception::{Dispatch, Exception};
 use tlb::{Entry, LookupAnswer};
 
 // One operation with its operands, named after the method that it runs.
-#[derive(Drop)]
+#[derive(Clone, Copy)]
 pub enum Op {
     Mfc0(u8),
     Dmfc0(u8),
@@ -33,7 +33,7 @@ pub enum Op {
     Eret,
 }
 
-#[derive(Drop)]
+#[derive(Clone, Copy)]
 pub enum Answer {
     // There is nothing to say.
     Done,

@@ -9,14 +9,14 @@ use cop0::Cop0;
 use tlb::Tlb;
 
 // All that a room's members must agree on.
-#[derive(Drop)]
+#[derive(Clone, Copy)]
 pub struct Session {
     pub cop0: Cop0,
     pub tlb: Tlb,
 }
 
 // An operation's answer, and the session after it.
-#[derive(Drop)]
+#[derive(Clone, Copy)]
 pub struct Stepped {
     pub answer: Answer,
     pub session: Session,

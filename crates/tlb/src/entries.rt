@@ -6,7 +6,7 @@ use crate::table::Tlb;
 
 // One half of an entry: the even or the odd page.
 #[repr(C)]
-#[derive(Drop)]
+#[derive(Clone, Copy)]
 pub struct PageEntry {
     // The page frame number, in units of 4 KiB whatever the page size.
     pub pfn: u32,
@@ -19,7 +19,7 @@ pub struct PageEntry {
 }
 
 #[repr(C)]
-#[derive(Drop)]
+#[derive(Clone, Copy)]
 pub struct Entry {
     // PageMask, which selects the page size.
     pub page_mask: u32,
@@ -36,7 +36,7 @@ pub struct Entry {
 }
 
 // Why a lookup failed.
-#[derive(Drop)]
+#[derive(Clone, Copy)]
 pub enum TlbFault {
     // No entry matched.
     Refill,
@@ -47,7 +47,7 @@ pub enum TlbFault {
 }
 
 // A physical address, and whether it bypasses the caches.
-#[derive(Drop)]
+#[derive(Clone, Copy)]
 pub struct Translated {
     pub addr: u32,
     pub uncached: bool,
@@ -55,7 +55,7 @@ pub struct Translated {
     pub entry: u8,
 }
 
-#[derive(Drop)]
+#[derive(Clone, Copy)]
 pub enum LookupAnswer {
     Found(Translated),
     Fault(TlbFault),

@@ -5,7 +5,7 @@ ghost use Rattle.tlb.specs.Micro.{has_match_of, slot_hits, probed_of, filled_of}
 use crate::table::Tlb;
 
 // Whether the micro-TLB hit, and the table with the other slot next.
-#[derive(Drop)]
+#[derive(Clone, Copy)]
 pub struct ItlbProbed {
     pub hit: bool,
     pub tlb: Tlb,

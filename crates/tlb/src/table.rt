@@ -6,7 +6,7 @@ ghost use Rattle.tlb.specs.Lookup.{lookup_answer, lookup_table, is_shutdown_of};
 
 use crate::entries::{Entry, LookupAnswer, PageEntry, TlbFault};
 
-#[derive(Drop)]
+#[derive(Clone, Copy)]
 pub struct Tlb {
     pub entries: [Entry; 32],
     // The micro-TLB: two entry numbers, 32 for an empty slot. Numbers and no copies, so that it cannot serve an entry that
@@ -19,14 +19,14 @@ pub struct Tlb {
 }
 
 // A lookup's answer, and the table after it.
-#[derive(Drop)]
+#[derive(Clone, Copy)]
 pub struct Looked {
     pub answer: LookupAnswer,
     pub tlb: Tlb,
 }
 
 // The lowest entry that matches, or 32, and whether there is another.
-#[derive(Drop)]
+#[derive(Clone, Copy)]
 pub(crate) struct Hits {
     pub first: usize,
     pub more: bool,
