@@ -72,7 +72,8 @@ def imports(text, own):
 def declared(root):
     found = collections.defaultdict(set)
     for path in files(root, (".antt",)):
-        if os.path.basename(path) in ("Proof.antt", "Answers.antt", "Invariants.antt"):
+        is_lemmas = os.path.basename(os.path.dirname(path)) in ("proofs", "specs")
+        if not is_lemmas and os.path.basename(path) in ("Proof.antt", "Answers.antt", "Invariants.antt"):
             text = read(path)
             for name in ALIAS.findall(text):
                 found[name].add(path)

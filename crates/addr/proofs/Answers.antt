@@ -21,65 +21,65 @@ use Rattle.addr.specs.declared.translate.TranslateError.{TranslateError}
 use Rattle.addr.specs.declared.translate.TranslateError.TheVariants.{Address, Tlb}
 use Rattle.addr.specs.declared.translate.TranslateAnswer.{TranslateAnswer}
 use Rattle.addr.specs.declared.translate.TranslateAnswer.TheVariants.{At, Failed}
-use Rattle.addr.specs.Answers.{modeNumber, cachedNumber, errorNumber, toldAccess, toldSegment, toldTranslate}
-use Rattle.tlb.proofs.Answers.{faultOf}
+use Rattle.addr.specs.Answers.{mode_number, cached_number, error_number, told_access, told_segment, told_translate}
+use Rattle.tlb.proofs.Answers.{fault_of}
 
-abbrev pub modeAt : ℕ → Mode
-modeAt n = cond (eqb n 0) Kernel (cond (eqb n 1) Supervisor User)
+abbrev pub mode_at : ℕ → Mode
+mode_at n = cond (eqb n 0) Kernel (cond (eqb n 1) Supervisor User)
 
-pub mode-undone : (m : Mode) → modeAt (modeNumber m) ≡ m
-mode-undone Kernel = refl
-mode-undone Supervisor = refl
-mode-undone User = refl
+pub mode_undone : (m : Mode) → mode_at (mode_number m) ≡ m
+mode_undone Kernel = refl
+mode_undone Supervisor = refl
+mode_undone User = refl
 
-abbrev accessAt : ℕ → List ℕ → AccessAnswer
-accessAt n [] = Refused n
-accessAt n (m ∷ vs) = Of (record { mode = modeAt m; wide = eqb (get_or vs 0 0) 1; erl = eqb (get_or vs 1 0) 1 })
+abbrev access_at : ℕ → List ℕ → AccessAnswer
+access_at n [] = Refused n
+access_at n (m ∷ vs) = Of (record { mode = mode_at m; wide = eqb (get_or vs 0 0) 1; erl = eqb (get_or vs 1 0) 1 })
 
-access-undone : (a : AccessAnswer) → accessAt (toldAccess a).number (toldAccess a).values ≡ a
-access-undone (Of a) = rw (mode-undone a.mode, bit_undone a.wide, bit_undone a.erl)
-access-undone (Refused n) = refl
+access_undone : (a : AccessAnswer) → access_at (told_access a).number (told_access a).values ≡ a
+access_undone (Of a) = rw (mode_undone a.mode, bit_undone a.wide, bit_undone a.erl)
+access_undone (Refused n) = refl
 
-pub access-one : (a a' : AccessAnswer) → toldAccess a ≡ toldAccess a' → a ≡ a'
-access-one = one_to_one toldAccess (λ (t : Told). accessAt t.number t.values) access-undone
+pub access_one : (a a' : AccessAnswer) → told_access a ≡ told_access a' → a ≡ a'
+access_one = one_to_one told_access (λ (t : Told). access_at t.number t.values) access_undone
 
-abbrev pub cachedAt : ℕ → Cached
-cachedAt n = cond (eqb n 1) Yes No
+abbrev pub cached_at : ℕ → Cached
+cached_at n = cond (eqb n 1) Yes No
 
-cached-undone : (c : Cached) → cachedAt (cachedNumber c) ≡ c
-cached-undone Yes = refl
-cached-undone No = refl
+cached_undone : (c : Cached) → cached_at (cached_number c) ≡ c
+cached_undone Yes = refl
+cached_undone No = refl
 
-abbrev segmentAt : List ℕ → Segment
-segmentAt [] = Invalid
-segmentAt (n ∷ []) = cond (eqb n 0) Mapped Invalid
-segmentAt (p ∷ c ∷ vs) = Direct p (cachedAt c)
+abbrev segment_at : List ℕ → Segment
+segment_at [] = Invalid
+segment_at (n ∷ []) = cond (eqb n 0) Mapped Invalid
+segment_at (p ∷ c ∷ vs) = Direct p (cached_at c)
 
-segment-undone : (g : Segment) → segmentAt (toldSegment g).values ≡ g
-segment-undone (Direct p c) = ap (Direct p) (cached-undone c)
-segment-undone Mapped = refl
-segment-undone Invalid = refl
+segment_undone : (g : Segment) → segment_at (told_segment g).values ≡ g
+segment_undone (Direct p c) = ap (Direct p) (cached_undone c)
+segment_undone Mapped = refl
+segment_undone Invalid = refl
 
-pub segment-one : (g g' : Segment) → toldSegment g ≡ toldSegment g' → g ≡ g'
-segment-one = one_to_one toldSegment (λ (t : Told). segmentAt t.values) segment-undone
+pub segment_one : (g g' : Segment) → told_segment g ≡ told_segment g' → g ≡ g'
+segment_one = one_to_one told_segment (λ (t : Told). segment_at t.values) segment_undone
 
-abbrev pub errorAt : ℕ → TranslateError
-errorAt n = cond (eqb n 3) Address (Tlb (faultOf n))
+abbrev pub error_at : ℕ → TranslateError
+error_at n = cond (eqb n 3) Address (Tlb (fault_of n))
 
-error-undone : (e : TranslateError) → errorAt (errorNumber e) ≡ e
-error-undone Address = refl
-error-undone (Tlb fault.Refill) = refl
-error-undone (Tlb fault.Invalid) = refl
-error-undone (Tlb fault.Modified) = refl
+error_undone : (e : TranslateError) → error_at (error_number e) ≡ e
+error_undone Address = refl
+error_undone (Tlb fault.Refill) = refl
+error_undone (Tlb fault.Invalid) = refl
+error_undone (Tlb fault.Modified) = refl
 
-abbrev pub translateAt : List ℕ → TranslateAnswer
-translateAt [] = Failed Address
-translateAt (n ∷ []) = Failed (errorAt n)
-translateAt (p ∷ c ∷ vs) = At (record { addr = p; cached = cachedAt c; entry = get_or vs 0 0 })
+abbrev pub translate_at : List ℕ → TranslateAnswer
+translate_at [] = Failed Address
+translate_at (n ∷ []) = Failed (error_at n)
+translate_at (p ∷ c ∷ vs) = At (record { addr = p; cached = cached_at c; entry = get_or vs 0 0 })
 
-pub translate-undone : (a : TranslateAnswer) → translateAt (toldTranslate a).values ≡ a
-translate-undone (At p) = ap (λ (c : Cached). At (record { addr = p.addr; cached = c; entry = p.entry })) (cached-undone p.cached)
-translate-undone (Failed e) = ap Failed (error-undone e)
+pub translate_undone : (a : TranslateAnswer) → translate_at (told_translate a).values ≡ a
+translate_undone (At p) = ap (λ (c : Cached). At (record { addr = p.addr; cached = c; entry = p.entry })) (cached_undone p.cached)
+translate_undone (Failed e) = ap Failed (error_undone e)
 
-pub translate-one : (a a' : TranslateAnswer) → toldTranslate a ≡ toldTranslate a' → a ≡ a'
-translate-one = one_to_one toldTranslate (λ (t : Told). translateAt t.values) translate-undone
+pub translate_one : (a a' : TranslateAnswer) → told_translate a ≡ told_translate a' → a ≡ a'
+translate_one = one_to_one told_translate (λ (t : Told). translate_at t.values) translate_undone

@@ -12,7 +12,7 @@ use Rattle.addr.specs.declared.access.Access.{Access}
 use Rattle.addr.specs.declared.segments.Cached.TheVariants.{Yes, No}
 use Rattle.addr.specs.declared.segments.Segment.{Segment}
 use Rattle.addr.specs.declared.segments.Segment.TheVariants.{Mapped, Invalid}
-use Rattle.addr.specs.Answers.{toldSegment}
+use Rattle.addr.specs.Answers.{told_segment}
 use Rattle.addr.specs.Segments.{direct, how, SegmentRow, row, inside, segment_in, rows_of, erl_row, table_of}
 
 abbrev each : {A : Type 0} → (A → Bool) → List A → Bool
@@ -24,7 +24,7 @@ some f [] = false
 some f (x ∷ xs) = f x || some f xs
 
 abbrev alike : Segment → Segment → Bool
-alike g h = equal (toldSegment g).values (toldSegment h).values
+alike g h = equal (told_segment g).values (told_segment h).values
 
 -- the address before a row's first and the one after its last, where there is one
 abbrev before : List SegmentRow → ℕ → Bool

@@ -22,12 +22,12 @@ use Rattle.addr.specs.declared.access.AccessAnswer.{AccessAnswer}
 use Rattle.addr.specs.declared.access.AccessAnswer.TheVariants.{Of, Refused}
 use Rattle.addr.specs.declared.segments.Cached.TheVariants.{No}
 use Rattle.addr.specs.declared.translate.Translation.{Translation}
-use Rattle.addr.specs.Answers.{toldAccess, toldTranslate}
+use Rattle.addr.specs.Answers.{told_access, told_translate}
 use Rattle.addr.specs.Access.{in_mode, is_kernel_of, access_of, names_none}
 use Rattle.addr.specs.Pipeline.{pipeline_mode, width_bit, pipeline_access, pipeline_told}
 use Rattle.addr.specs.Segments.{inside, segment_of}
 use Rattle.addr.specs.Translate.{reached, translate_answer}
-use Rattle.addr.proofs.Answers.{modeAt, mode-undone, access-one, translate-one}
+use Rattle.addr.proofs.Answers.{mode_at, mode_undone, access_one, translate_one}
 use Rattle.addr.proofs.access.Access.from_status.Reads as from_status
 use Rattle.addr.proofs.translate.translate_via.Reads as translate_via
 
@@ -108,10 +108,10 @@ refused_only_there s n e = go (names_none s) refl (sym (pipeline_agrees s) ∙ e
 -- the same of a call, by its contract
 module _ (a : ℕ × Unit {0}) (r : AccessAnswer) (p : from_status.Post tt a r a) where
   pub call_refused : names_none a.0 ≡ true → r ≡ Refused 4
-  call_refused none = access-one r (Refused 4) (p ∙ refused_there a.0 none)
+  call_refused none = access_one r (Refused 4) (p ∙ refused_there a.0 none)
 
   pub call_refused_only : (n : ℕ) → r ≡ Refused n → (names_none a.0 ≡ true) × (n ≡ 4)
-  call_refused_only n e = refused_only_there a.0 n (sym p ∙ ap toldAccess e)
+  call_refused_only n e = refused_only_there a.0 n (sym p ∙ ap told_access e)
 
 -- where a console starts after a reset (6.4.4)
 abbrev pub reset_handler : ℕ
@@ -127,11 +127,11 @@ module _ (t : Tlb) (asid : ℕ) (store : Bool) where
   by_kernel false true = refl
   by_kernel false false = refl
 
-  pub reset_handler_reached : (s : ℕ) → field_of s 2 2 ≡ 1 → (a : Access) → toldAccess (Of a) ≡ access_of s
+  pub reset_handler_reached : (s : ℕ) → field_of s 2 2 ≡ 1 → (a : Access) → told_access (Of a) ≡ access_of s
       → translate_answer t reset_handler asid store a ≡ reached 0x1FC0_0000 No 32
   reset_handler_reached s erl a e =
       ap (λ (m : Mode). translate_answer t reset_handler asid store (record { mode = m; wide = a.wide; erl = a.erl }))
-      (sym (mode-undone a.mode) ∙ ap (λ (u : Told). modeAt (get_or u.values 0 0)) (e ∙ kernel_by_erl s erl))
+      (sym (mode_undone a.mode) ∙ ap (λ (u : Told). mode_at (get_or u.values 0 0)) (e ∙ kernel_by_erl s erl))
       ∙ by_kernel a.wide a.erl
 
   -- the same of two calls, by their contracts: what Status asks for, and the fetch by it
@@ -139,4 +139,4 @@ module _ (t : Tlb) (asid : ℕ) (store : Bool) where
       → translate_via.Post tt (t, (reset_handler, (asid, (store, (a, tt))))) r (t, (reset_handler, (asid, (store, (a, tt)))))
       → r.answer ≡ reached 0x1FC0_0000 No 32
   boot_goes_on s erl a r p q =
-      translate-one r.answer (reached 0x1FC0_0000 No 32) (q.0 ∙ ap toldTranslate (reset_handler_reached s erl a p))
+      translate_one r.answer (reached 0x1FC0_0000 No 32) (q.0 ∙ ap told_translate (reset_handler_reached s erl a p))

@@ -9,7 +9,7 @@ use Rattle.addr.specs.declared.access.AccessAnswer.{AccessAnswer}
 use Rattle.addr.specs.declared.segments.Segment.{Segment}
 use Rattle.addr.specs.declared.translate.TranslateAnswer.{TranslateAnswer}
 use Rattle.addr.specs.declared.translate.Translation.{Translation}
-use Rattle.addr.proofs.Answers.{access-one, segment-one, translate-one}
+use Rattle.addr.proofs.Answers.{access_one, segment_one, translate_one}
 use Rattle.addr.proofs.access.Access.kernel.Reads as kernel
 use Rattle.addr.proofs.access.Access.from_status.Reads as from_status
 use Rattle.addr.proofs.access.Access.segment.Reads as segment
@@ -24,10 +24,10 @@ kernel_unique a r r' = same
 
 pub from_status_unique : (a : ℕ × Unit {0}) (r r' : AccessAnswer) → from_status.Post tt a r a
     → from_status.Post tt a r' a → r ≡ r'
-from_status_unique a r r' p q = access-one r r' (same p q)
+from_status_unique a r r' p q = access_one r r' (same p q)
 
 pub segment_unique : (a : Access × (ℕ × Unit {0})) (r r' : Segment) → segment.Post tt a r a → segment.Post tt a r' a → r ≡ r'
-segment_unique a r r' p q = segment-one r r' (same p q)
+segment_unique a r r' p q = segment_one r r' (same p q)
 
 pub within_unique : (a : ℕ × (ℕ × (ℕ × Unit {0}))) (r r' : Bool) → within.Post tt a r a → within.Post tt a r' a → r ≡ r'
 within_unique a r r' = same
@@ -36,5 +36,5 @@ pub translate_via_unique : (a : Tlb × (ℕ × (ℕ × (Bool × (Access × Unit 
     → translate_via.Post tt a r a → translate_via.Post tt a r' a → r ≡ r'
 translate_via_unique a r r' p q =
     ap₂ made
-    (translate-one r.answer r'.answer (same p.0 q.0))
+    (translate_one r.answer r'.answer (same p.0 q.0))
     (same p.1 q.1)

@@ -21,36 +21,36 @@ use Rattle.addr.specs.declared.translate.Physical.{Physical}
 use Rattle.addr.specs.declared.translate.Translation.{Translation}
 use Rattle.addr.specs.declared.translate.TranslateAnswer.{TranslateAnswer}
 use Rattle.addr.specs.declared.translate.TranslateAnswer.TheVariants.{At, Failed}
-use Rattle.addr.specs.Answers.{toldTranslate}
+use Rattle.addr.specs.Answers.{told_translate}
 use Rattle.addr.specs.Segments.{segment_of}
 use Rattle.addr.specs.Translate.{mapped_answer, segment_answer, translate_answer}
 use Rattle.addr.specs.Former.{former_mapped, former_segment, former_translate}
 use Rattle.tlb.proofs.WhichEntry.{Only, found_only, lookup_former}
-use Rattle.addr.proofs.Answers.{translate-one}
+use Rattle.addr.proofs.Answers.{translate_one}
 use Rattle.addr.proofs.translate.translate_via.Reads as translate_via
 
 mapped_former : (l : LookupAnswer)
-    → unnumbered (toldTranslate (mapped_answer l)) ≡ answered (former_mapped (unnumbered (told_lookup l)).values)
+    → unnumbered (told_translate (mapped_answer l)) ≡ answered (former_mapped (unnumbered (told_lookup l)).values)
 mapped_former (Found y) = go y.uncached
   where
     with_caching : Bool → LookupAnswer
     with_caching b = Found (record { addr = y.addr; uncached = b; entry = y.entry })
 
-    go : (b : Bool) → unnumbered (toldTranslate (mapped_answer (with_caching b)))
+    go : (b : Bool) → unnumbered (told_translate (mapped_answer (with_caching b)))
         ≡ answered (former_mapped (unnumbered (told_lookup (with_caching b))).values)
     go true = refl
     go false = refl
 mapped_former (Fault f) = refl
 
 pub translate_former : (t : Tlb) (v asid : ℕ) (store : Bool) (a : Access)
-    → unnumbered (toldTranslate (translate_answer t v asid store a)) ≡ former_translate t v asid store a
+    → unnumbered (told_translate (translate_answer t v asid store a)) ≡ former_translate t v asid store a
 unfolding translate_answer former_translate
 translate_former t v asid store a = go (segment_of a v)
   where
     l : LookupAnswer
     l = lookup_answer t v asid store
 
-    go : (g : Segment) → unnumbered (toldTranslate (segment_answer g l)) ≡ former_segment g (former_lookup t v asid store)
+    go : (g : Segment) → unnumbered (told_translate (segment_answer g l)) ≡ former_segment g (former_lookup t v asid store)
     go (Direct p c) = refl
     go Mapped = mapped_former l ∙ ap (λ (old : Told). answered (former_mapped old.values)) (lookup_former t v asid store)
     go Invalid = refl
@@ -93,12 +93,12 @@ module _ (t : Tlb) (v asid : ℕ) (store : Bool) (a : Access) (x : Physical) (e 
 
 -- the same of a call, by its contract
 module _ (b : Tlb × (ℕ × (ℕ × (Bool × (Access × Unit {0}))))) (r : Translation) (p : translate_via.Post tt b r b) where
-  pub call_former : unnumbered (toldTranslate r.answer) ≡ former_translate b.0 b.1.0 b.1.1.0 b.1.1.1.0 b.1.1.1.1.0
+  pub call_former : unnumbered (told_translate r.answer) ≡ former_translate b.0 b.1.0 b.1.1.0 b.1.1.1.0 b.1.1.1.1.0
   call_former = ap unnumbered p.0 ∙ translate_former b.0 b.1.0 b.1.1.0 b.1.1.1.0 b.1.1.1.1.0
 
   module _ (x : Physical) (e : r.answer ≡ At x) where
     answer_is : translate_answer b.0 b.1.0 b.1.1.0 b.1.1.1.0 b.1.1.1.1.0 ≡ At x
-    answer_is = sym (translate-one r.answer _ p.0) ∙ e
+    answer_is = sym (translate_one r.answer _ p.0) ∙ e
 
     pub call_direct : (q : ℕ) (c : Cached) → segment_of b.1.1.1.1.0 b.1.0 ≡ Direct q c → x.entry ≡ 32
     call_direct = direct_has_32 b.0 b.1.0 b.1.1.0 b.1.1.1.0 b.1.1.1.1.0 x answer_is

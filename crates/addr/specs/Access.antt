@@ -5,14 +5,14 @@ use Rattle.bits.specs.Told.{Told, answered, refused}
 use Rattle.addr.specs.declared.access.Mode.{Mode}
 use Rattle.addr.specs.declared.access.Mode.TheVariants.{Kernel, Supervisor, User}
 use Rattle.addr.specs.declared.access.Access.{Access}
-use Rattle.addr.specs.Answers.{modeNumber}
+use Rattle.addr.specs.Answers.{mode_number}
 
 abbrev pub kernel_access : Access
 kernel_access = record { mode = Kernel; wide = false; erl = false }
 
 -- an access in a mode, with the bit of Status that is its width
 abbrev pub in_mode : Mode → ℕ → ℕ → Told
-in_mode m width s = answered (modeNumber m ∷ field_of s width width ∷ field_of s 2 2 ∷ [])
+in_mode m width s = answered (mode_number m ∷ field_of s width width ∷ field_of s 2 2 ∷ [])
 
 -- kernel when EXL is 1, ERL is 1 or KSU is 0
 unfoldable pub is_kernel_of : ℕ → Bool

@@ -17,31 +17,31 @@ use Rattle.addr.specs.declared.translate.TranslateAnswer.{TranslateAnswer}
 use Rattle.addr.specs.declared.translate.TranslateAnswer.TheVariants.{At, Failed}
 
 -- the number of each mode: its KSU
-abbrev pub modeNumber : Mode → ℕ
-modeNumber Kernel = 0
-modeNumber Supervisor = 1
-modeNumber User = 2
+abbrev pub mode_number : Mode → ℕ
+mode_number Kernel = 0
+mode_number Supervisor = 1
+mode_number User = 2
 
-abbrev pub toldAccess : AccessAnswer → Told
-toldAccess (Of a) = answered (modeNumber a.mode ∷ bit a.wide ∷ bit a.erl ∷ [])
-toldAccess (Refused n) = refused n
+abbrev pub told_access : AccessAnswer → Told
+told_access (Of a) = answered (mode_number a.mode ∷ bit a.wide ∷ bit a.erl ∷ [])
+told_access (Refused n) = refused n
 
-abbrev pub cachedNumber : Cached → ℕ
-cachedNumber Yes = 1
-cachedNumber No = 0
+abbrev pub cached_number : Cached → ℕ
+cached_number Yes = 1
+cached_number No = 0
 
 -- a direct address and its caching; one value alone where there is no address
-abbrev pub toldSegment : Segment → Told
-toldSegment (Direct p c) = answered (p ∷ cachedNumber c ∷ [])
-toldSegment Mapped = answered (0 ∷ [])
-toldSegment Invalid = answered (1 ∷ [])
+abbrev pub told_segment : Segment → Told
+told_segment (Direct p c) = answered (p ∷ cached_number c ∷ [])
+told_segment Mapped = answered (0 ∷ [])
+told_segment Invalid = answered (1 ∷ [])
 
 -- the TLB's own number of its fault, and the next one for an address error
-abbrev pub errorNumber : TranslateError → ℕ
-errorNumber (Tlb f) = fault_number f
-errorNumber Address = 3
+abbrev pub error_number : TranslateError → ℕ
+error_number (Tlb f) = fault_number f
+error_number Address = 3
 
 -- the physical address, its caching and the entry's number; one value alone where there is no address
-abbrev pub toldTranslate : TranslateAnswer → Told
-toldTranslate (At p) = answered (p.addr ∷ cachedNumber p.cached ∷ p.entry ∷ [])
-toldTranslate (Failed e) = answered (errorNumber e ∷ [])
+abbrev pub told_translate : TranslateAnswer → Told
+told_translate (At p) = answered (p.addr ∷ cached_number p.cached ∷ p.entry ∷ [])
+told_translate (Failed e) = answered (error_number e ∷ [])

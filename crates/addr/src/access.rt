@@ -1,7 +1,7 @@
 // Everything outside the address itself that decides how it translates, and its reading from Status.
 ghost use Rattle.std.specs.Prelude.{◌≡◌};
 ghost use Rattle.addr.specs.Access.{kernel_access, in_mode, is_kernel_of, access_of};
-ghost use Rattle.addr.specs.Answers.{toldAccess};
+ghost use Rattle.addr.specs.Answers.{told_access};
 
 // The privilege mode an access is made in.
 #[derive(Clone, Copy)]
@@ -41,7 +41,7 @@ impl Access {
 
     // The access that Status asks for. The manual gives KSU 3 no mode.
     pub fn from_status(status: u64) -> AccessAnswer
-        ensures { toldAccess result ≡ access_of status }
+        ensures { told_access result ≡ access_of status }
     {
         if is_kernel(status) {
             return in_mode(status, Mode::Kernel, 7);
@@ -70,7 +70,7 @@ fn is_kernel(status: u64) -> bool
 
 // The access in a mode whose width is Status's bit `width`.
 fn in_mode(status: u64, mode: Mode, width: u32) -> AccessAnswer
-    ensures { toldAccess result ≡ in_mode mode width status }
+    ensures { told_access result ≡ in_mode mode width status }
 {
     AccessAnswer::Of(Access {
         mode,

@@ -1,7 +1,7 @@
 // The segments: which part of the address space an address lies in, and how it is reached.
 ghost use Rattle.std.specs.Prelude.{◌≡◌, ◌≤◌};
 ghost use Rattle.addr.specs.Segments.{inside, direct, xkphys, how, segment_in, compatibility, rows_of, segment_of};
-ghost use Rattle.addr.specs.Answers.{toldSegment};
+ghost use Rattle.addr.specs.Answers.{told_segment};
 
 use crate::access::{Access, Mode};
 
@@ -28,7 +28,7 @@ pub enum Segment {
 impl Access {
     // The segment of an address (5.2.4, tables 5-3 and 5-4): the half of translation that needs no TLB.
     pub fn segment(self, vaddr: u64) -> Segment
-        ensures { toldSegment result ≡ toldSegment (segment_of self vaddr) }
+        ensures { told_segment result ≡ told_segment (segment_of self vaddr) }
     {
         // Cold reset sets ERL, so this is how every boot starts (5.2.2). The whole address is compared: 1_0000_1000 is
         // past the 2 GB, though its low word is not.
@@ -67,7 +67,7 @@ const SSEG_LAST: u64 = 0xFFFF_FFFF_DFFF_FFFF;
 
 // User mode: one segment. What would be KSEG0 is an address error, and this, not the TLB, keeps a user program out of it.
 fn user_segment(v: u64, wide: bool) -> Segment
-    ensures { toldSegment result ≡ toldSegment (segment_in (rows_of Mode.User wide) v) }
+    ensures { told_segment result ≡ told_segment (segment_in (rows_of Mode.User wide) v) }
 {
     if wide {
         if within(v, 0, XUSEG_LAST) {
@@ -83,7 +83,7 @@ fn user_segment(v: u64, wide: bool) -> Segment
 
 // Supervisor mode: SUSEG and SSEG; under 64-bit addressing XSUSEG, XSSEG and CSSEG.
 fn supervisor_segment(v: u64, wide: bool) -> Segment
-    ensures { toldSegment result ≡ toldSegment (segment_in (rows_of Mode.Supervisor wide) v) }
+    ensures { told_segment result ≡ told_segment (segment_in (rows_of Mode.Supervisor wide) v) }
 {
     if wide {
         if within(v, 0, XUSEG_LAST) {
@@ -108,7 +108,7 @@ fn supervisor_segment(v: u64, wide: bool) -> Segment
 
 // Kernel mode: KUSEG and the compatibility segments; under 64-bit addressing XKUSEG, XKSSEG, XKPHYS and XKSEG before them.
 fn kernel_segment(v: u64, wide: bool) -> Segment
-    ensures { toldSegment result ≡ toldSegment (segment_in (rows_of Mode.Kernel wide) v) }
+    ensures { told_segment result ≡ told_segment (segment_in (rows_of Mode.Kernel wide) v) }
 {
     if wide {
         if within(v, 0, XUSEG_LAST) {
@@ -134,7 +134,7 @@ fn kernel_segment(v: u64, wide: bool) -> Segment
 
 // The segments from FFFF_FFFF_8000_0000 up: KSEG0, KSEG1, and KSSEG with KSEG3; CKSEG0 and so on under 64-bit addressing.
 fn compat_kernel_segment(v: u64) -> Segment
-    ensures { toldSegment result ≡ toldSegment (segment_in compatibility v) }
+    ensures { told_segment result ≡ told_segment (segment_in compatibility v) }
 {
     if within(v, 0xFFFF_FFFF_8000_0000, 0xFFFF_FFFF_9FFF_FFFF) {
         return direct(v, 28, Cached::Yes);
@@ -151,7 +151,7 @@ fn compat_kernel_segment(v: u64) -> Segment
 // One of XKPHYS's eight windows on physical memory, which differ only in their C field: as in a TLB entry, only C 2 is
 // uncached (table 5-6).
 fn xkphys(v: u64) -> Segment
-    ensures { toldSegment result ≡ toldSegment (how xkphys v) }
+    ensures { told_segment result ≡ told_segment (how xkphys v) }
 {
     if bits::field(v, 58, 32) != 0 {
         return Segment::Invalid;
@@ -165,7 +165,7 @@ fn xkphys(v: u64) -> Segment
 // A direct address: bits hi..0.
 fn direct(v: u64, hi: u32, cached: Cached) -> Segment
     requires { hi ≤ 31 }
-    ensures { toldSegment result ≡ toldSegment (how (direct hi cached) v) }
+    ensures { told_segment result ≡ told_segment (how (direct hi cached) v) }
 {
     let addr = bits::field(v, hi, 0) as u32;
     Segment::Direct { addr, cached }

@@ -1,6 +1,6 @@
 // Translation: directly where the segment says so, else by the TLB.
 ghost use Rattle.std.specs.Prelude.{◌≡◌};
-ghost use Rattle.addr.specs.Answers.{toldTranslate};
+ghost use Rattle.addr.specs.Answers.{told_translate};
 ghost use Rattle.addr.specs.Translate.{Carries, translate_answer, translate_table};
 
 use crate::access::Access;
@@ -38,7 +38,7 @@ pub struct Translation {
 
 // Translates an address. The table comes back as the lookup left it, since a second match shuts it down.
 pub fn translate_via(tlb: Tlb, vaddr: u64, asid: u8, store: bool, access: Access) -> Translation
-    ensures { (toldTranslate result.answer ≡ toldTranslate (translate_answer tlb vaddr asid store access))
+    ensures { (told_translate result.answer ≡ told_translate (translate_answer tlb vaddr asid store access))
         × (result.tlb ≡ translate_table tlb vaddr asid access) }
 {
     match access.segment(vaddr) {

@@ -17,48 +17,48 @@ use Rattle.cop0.specs.Advance.{told_advance, moved, advance_told, code_of, advan
 abbrev form_of : ℕ → Cop0Op
 form_of rs = cond (eqb rs 0) Mfc0 (cond (eqb rs 1) Dmfc0 (cond (eqb rs 4) Mtc0 Dmtc0))
 
-form-rs : (o : Cop0Op) → form_of (rs_of o) ≡ o
-form-rs Mfc0 = refl
-form-rs Dmfc0 = refl
-form-rs Mtc0 = refl
-form-rs Dmtc0 = refl
+form_rs : (o : Cop0Op) → form_of (rs_of o) ≡ o
+form_rs Mfc0 = refl
+form_rs Dmfc0 = refl
+form_rs Mtc0 = refl
+form_rs Dmtc0 = refl
 
-abbrev fromRsAt : ℕ → List ℕ → FromRs
-fromRsAt n [] = Refused n
-fromRsAt n (v ∷ vs) = Op (form_of v)
+abbrev from_rs_at : ℕ → List ℕ → FromRs
+from_rs_at n [] = Refused n
+from_rs_at n (v ∷ vs) = Op (form_of v)
 
-from-rs-undone : (a : FromRs) → fromRsAt (told_from_rs a).number (told_from_rs a).values ≡ a
-from-rs-undone (Op o) = ap Op (form-rs o)
-from-rs-undone (Refused n) = refl
+from_rs_undone : (a : FromRs) → from_rs_at (told_from_rs a).number (told_from_rs a).values ≡ a
+from_rs_undone (Op o) = ap Op (form_rs o)
+from_rs_undone (Refused n) = refl
 
-pub from-rs-one : (a a' : FromRs) → told_from_rs a ≡ told_from_rs a' → a ≡ a'
-from-rs-one = one_to_one told_from_rs (λ (t : Told). fromRsAt t.number t.values) from-rs-undone
+pub from_rs_one : (a a' : FromRs) → told_from_rs a ≡ told_from_rs a' → a ≡ a'
+from_rs_one = one_to_one told_from_rs (λ (t : Told). from_rs_at t.number t.values) from_rs_undone
 
-abbrev pub advanceAt : ℕ → List ℕ → AdvanceAnswer
-advanceAt n [] = NoAdvance n
-advanceAt n (v ∷ vs) = Edge (eqb v 1)
+abbrev pub advance_at : ℕ → List ℕ → AdvanceAnswer
+advance_at n [] = NoAdvance n
+advance_at n (v ∷ vs) = Edge (eqb v 1)
 
-pub advance-undone : (a : AdvanceAnswer) → advanceAt (told_advance a).number (told_advance a).values ≡ a
-advance-undone (Edge true) = refl
-advance-undone (Edge false) = refl
-advance-undone (NoAdvance n) = refl
+pub advance_undone : (a : AdvanceAnswer) → advance_at (told_advance a).number (told_advance a).values ≡ a
+advance_undone (Edge true) = refl
+advance_undone (Edge false) = refl
+advance_undone (NoAdvance n) = refl
 
-pub advance-one : (a a' : AdvanceAnswer) → told_advance a ≡ told_advance a' → a ≡ a'
-advance-one = one_to_one told_advance (λ (t : Told). advanceAt t.number t.values) advance-undone
+pub advance_one : (a a' : AdvanceAnswer) → told_advance a ≡ told_advance a' → a ≡ a'
+advance_one = one_to_one told_advance (λ (t : Told). advance_at t.number t.values) advance_undone
 
 -- what crossed as n: an edge or none, or the refusal
-abbrev toldAt : ℕ → Told
-toldAt n = cond (ltb n 2) (answered (n ∷ [])) (refused n)
+abbrev told_at : ℕ → Told
+told_at n = cond (ltb n 2) (answered (n ∷ [])) (refused n)
 
-code-undone : (fits edge : Bool) → let t = cond fits (answered (bit edge ∷ [])) (refused 5) in toldAt (code_of t) ≡ t
-code-undone true true = refl
-code-undone true false = refl
-code-undone false edge = refl
+code_undone : (fits edge : Bool) → let t = cond fits (answered (bit edge ∷ [])) (refused 5) in told_at (code_of t) ≡ t
+code_undone true true = refl
+code_undone true false = refl
+code_undone false edge = refl
 
 -- 0, 1 and 5: an advance is known by the number by which its answer crosses
-pub advance-code-one : (c c' : Cop0) (n n' m m' : ℕ) → advance_code c n m ≡ advance_code c' n' m'
+pub advance_code_one : (c c' : Cop0) (n n' m m' : ℕ) → advance_code c n m ≡ advance_code c' n' m'
     → advance_told c n m ≡ advance_told c' n' m'
 unfolding advance_told
-advance-code-one c c' n n' m m' e =
-    sym (code-undone (ltb n (2 ^ 32)) (edge_of (moved c n m))) ∙ ap toldAt e
-    ∙ code-undone (ltb n' (2 ^ 32)) (edge_of (moved c' n' m'))
+advance_code_one c c' n n' m m' e =
+    sym (code_undone (ltb n (2 ^ 32)) (edge_of (moved c n m))) ∙ ap told_at e
+    ∙ code_undone (ltb n' (2 ^ 32)) (edge_of (moved c' n' m'))

@@ -12,7 +12,7 @@ use Rattle.cop0.specs.declared.clock.Polled.{Polled}
 use Rattle.cop0.specs.declared.advance.AdvanceAnswer.{AdvanceAnswer}
 use Rattle.cop0.specs.declared.advance.Advanced.{Advanced}
 use Rattle.cop0.specs.declared.access.FromRs.{FromRs}
-use Rattle.cop0.proofs.Answers.{from-rs-one, advance-one}
+use Rattle.cop0.proofs.Answers.{from_rs_one, advance_one}
 use Rattle.cop0.proofs.registers.Cop0.new.Reads as new
 use Rattle.cop0.proofs.registers.Cop0.numbers.Reads as numbers
 use Rattle.cop0.proofs.registers.Cop0.is_unused.Reads as is_unused
@@ -34,7 +34,7 @@ use Rattle.cop0.proofs.registers.Cop0.tick_random_by.Reads as tick_random_by
 use Rattle.cop0.proofs.registers.Cop0.set_ip.Reads as set_ip
 use Rattle.cop0.proofs.registers.Cop0.interrupt_pending.Reads as interrupt_pending
 use Rattle.cop0.proofs.registers.Cop0.advance.Reads as advance
-use Rattle.cop0.proofs.registers.is_wide.Reads as is_Is_wide
+use Rattle.cop0.proofs.registers.is_wide.Reads as is_wide
 use Rattle.cop0.proofs.access.Cop0Op.from_rs.Reads as from_rs
 use Rattle.cop0.specs.contracts.in_place.advance_in_place as advance_in_place
 
@@ -112,7 +112,7 @@ pub advance_unique : (a : Cop0 × (ℕ × (ℕ × Unit {0}))) (r r' : Advanced) 
     → advance.Post tt a r' a → r ≡ r'
 advance_unique a r r' p q =
     ap₂ made
-    (advance-one r.answer r'.answer (same p.0 q.0))
+    (advance_one r.answer r'.answer (same p.0 q.0))
     (same p.1 q.1)
 
 -- the checker makes no plain reading of a lent record's contract: this is its clause itself, at a model of the logic
@@ -129,8 +129,8 @@ advance_in_place_unique w κs a r r' s s' =
     fact_use w.𝓤 _ (snd∗ w.𝓤 (left_at w κs a r s) (left_at w κs a r' s')) (λ q.
     fact_i w.𝓤 _ _ (same p.0 q.0, same p.1 q.1)))
 
-pub is_wide_unique : (a : ℕ × Unit {0}) (r r' : Bool) → is_Is_wide.Post tt a r a → is_Is_wide.Post tt a r' a → r ≡ r'
+pub is_wide_unique : (a : ℕ × Unit {0}) (r r' : Bool) → is_wide.Post tt a r a → is_wide.Post tt a r' a → r ≡ r'
 is_wide_unique a r r' = same
 
 pub from_rs_unique : (a : ℕ × Unit {0}) (r r' : FromRs) → from_rs.Post tt a r a → from_rs.Post tt a r' a → r ≡ r'
-from_rs_unique a r r' p q = from-rs-one r r' (same p q)
+from_rs_unique a r r' p q = from_rs_one r r' (same p q)

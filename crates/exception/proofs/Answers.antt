@@ -14,5 +14,5 @@ undone TlbRefill = refl
 undone XtlbRefill = refl
 undone Reset = refl
 
-pub kind-one : (k k' : VectorKind) → kind_number k ≡ kind_number k' → k ≡ k'
-kind-one = one_to_one kind_number kind_at undone
+pub kind_one : (k k' : VectorKind) → kind_number k ≡ kind_number k' → k ≡ k'
+kind_one = one_to_one kind_number kind_at undone

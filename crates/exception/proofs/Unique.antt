@@ -6,7 +6,7 @@ use Rattle.exception.specs.declared.kinds.Exception.{Exception}
 use Rattle.exception.specs.declared.vectors.VectorKind.{VectorKind}
 use Rattle.exception.specs.declared.epilogue.Dispatched.{Dispatched}
 use Rattle.exception.specs.declared.returning.Returned.{Returned}
-use Rattle.exception.proofs.Answers.{kind-one}
+use Rattle.exception.proofs.Answers.{kind_one}
 use Rattle.exception.proofs.kinds.exc_code_of.Reads as exc_code_of
 use Rattle.exception.proofs.kinds.vector_kind_of.Reads as vector_kind_of
 use Rattle.exception.proofs.kinds.writes_bad_vaddr.Reads as writes_bad_vaddr
@@ -26,7 +26,7 @@ exc_code_of_unique a r r' = same
 
 pub vector_kind_of_unique : (a : Exception × Unit {0}) (r r' : VectorKind) → vector_kind_of.Post tt a r a
     → vector_kind_of.Post tt a r' a → r ≡ r'
-vector_kind_of_unique a r r' p q = kind-one r r' (same p q)
+vector_kind_of_unique a r r' p q = kind_one r r' (same p q)
 
 pub writes_bad_vaddr_unique : (a : Exception × Unit {0}) (r r' : Bool) → writes_bad_vaddr.Post tt a r a
     → writes_bad_vaddr.Post tt a r' a → r ≡ r'

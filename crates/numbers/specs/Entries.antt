@@ -7,7 +7,7 @@ use Rattle.tlb.specs.Entries.{told_lookup}
 use Rattle.tlb.specs.Table.{fresh_from, fresh_table}
 use Rattle.tlb.specs.Lookup.{lookup_answer}
 use Rattle.addr.specs.Access.{kernel_access}
-use Rattle.addr.specs.Answers.{toldTranslate}
+use Rattle.addr.specs.Answers.{told_translate}
 use Rattle.addr.specs.Translate.{translate_answer}
 use Rattle.numbers.specs.Table.{NumberRow, row, answer}
 
@@ -27,7 +27,7 @@ abbrev looked : ℕ → List ℕ
 looked i = answer (told_lookup (lookup_answer (with_entry i) 0x5ABC 0 true))
 
 abbrev translated : Tlb → ℕ → List ℕ
-translated t v = answer (toldTranslate (translate_answer t v 0 true kernel_access))
+translated t v = answer (told_translate (translate_answer t v 0 true kernel_access))
 
 abbrev pub q1 : List NumberRow
 q1 =

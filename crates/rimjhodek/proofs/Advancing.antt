@@ -14,7 +14,7 @@ use Rattle.cop0.specs.Random.{tick_random_by_of}
 use Rattle.cop0.specs.Advance.{raised_if, advance_told, advance_of}
 use Rattle.cop0.proofs.Timer.{advances}
 use Rattle.rimjhodek.specs.declared.answers.Flag.{Flag}
-use Rattle.rimjhodek.specs.Answers.{flagOf}
+use Rattle.rimjhodek.specs.Answers.{flag_of}
 use Rattle.rimjhodek.specs.Registers.{cop0_in, put_in, comes_to_compare}
 use Rattle.rimjhodek.proofs.Meaning.{Holds, in_fits, in_now, rest_now, onto, held}
 use Rattle.rimjhodek.proofs.Fitting.{now_fits, random_fits, asked_fits}
@@ -57,7 +57,7 @@ module _ (ws : List ℕ) (long : length ws ≡ 38) (n m t : ℕ) (small : n < 2 
   unfolding polled_of
   both = advances c n m t q (polled_of q) small et refl refl
 
-  flagged : (b : Bool) → edge_of q ≡ b → told b ≡ flagOf (advance_told c n m)
+  flagged : (b : Bool) → edge_of q ≡ b → told b ≡ flag_of (advance_told c n m)
   flagged b e = rw (← both.0, e, bit_undone b)
 
   after : (b : Bool) → edge_of q ≡ b → raised_if b (asked q) ≡ advance_of c n m
@@ -73,14 +73,14 @@ module _ (ws : List ℕ) (long : length ws ≡ 38) (n m t : ℕ) (small : n < 2 
     same_edge b e = sym (e ∙ ap edge_of random.meant)
 
     pub quiet : (b : Bool) → b ≡ edge_of (cop0_in ws₂) → b ≡ false
-        → (told false ≡ flagOf (advance_told c n m)) × (ws₃ ≡ put_in ws (advance_of c n m))
+        → (told false ≡ flag_of (advance_told c n m)) × (ws₃ ≡ put_in ws (advance_of c n m))
     quiet b e f = (
       flagged false (same_edge b e ∙ f),
       onto random asked ws₃ e₃ ∙ ap (put_in ws) (after false (same_edge b e ∙ f)),
     )
 
     pub raised : (b : Bool) → b ≡ edge_of (cop0_in ws₂) → b ≡ true → (ws₄ : List ℕ) → ws₄ ≡ put_in ws₃ (set_ip_of (cop0_in ws₃) 7 true)
-        → (told true ≡ flagOf (advance_told c n m)) × (ws₄ ≡ put_in ws (advance_of c n m))
+        → (told true ≡ flag_of (advance_told c n m)) × (ws₄ ≡ put_in ws (advance_of c n m))
     raised b e f ws₄ e₄ =
         let polled = held random asked ws₃ e₃ (asked_fits (random_fits (now_fits (in_fits ws long) t) m)) in (
           flagged true (same_edge b e ∙ f),

@@ -21,7 +21,7 @@ use Rattle.rimjhodek.specs.declared.answers.Eviction.{Eviction}
 use Rattle.rimjhodek.specs.declared.dcache.DataPlan.{DataPlan}
 use Rattle.rimjhodek.specs.declared.dcache.DataLine.{DataLine}
 use Rattle.rimjhodek.specs.declared.icache.InstructionLine.{InstructionLine}
-use Rattle.rimjhodek.specs.Answers.{flagOf, number_of, plan_of, evictionOf}
+use Rattle.rimjhodek.specs.Answers.{flag_of, number_of, plan_of, eviction_of}
 use Rattle.rimjhodek.proofs.Steps.{told_flag}
 use Rattle.rimjhodek.specs.contracts.dcache.rimjhodek_dcache_new as data_new
 use Rattle.rimjhodek.proofs.dcache.rimjhodek_dcache_new.Reads as data_new_reads
@@ -91,7 +91,7 @@ abbrev Done : Told → Type 0
 Done t = told_done t.number ≡ t
 
 abbrev Flags : Told → Type 0
-Flags t = told_flag (flagOf t) ≡ t
+Flags t = told_flag (flag_of t) ≡ t
 
 abbrev Numbers : Told → Type 0
 Numbers t = told_number (number_of t) ≡ t
@@ -100,7 +100,7 @@ abbrev Plans : Told → Type 0
 Plans t = told_plan (plan_of t) ≡ t
 
 abbrev Evictions : Told → Type 0
-Evictions t = told_eviction (evictionOf t) ≡ t
+Evictions t = told_eviction (eviction_of t) ≡ t
 
 both_back : (bytes : ℕ) (ls ws : List ℕ) → Done (both_told bytes ls ws)
 unfolding both_told

@@ -8,7 +8,7 @@ use Rattle.tlb.specs.declared.entries.Entry.{Entry}
 use Rattle.session.specs.declared.op.Op.{Op}
 use Rattle.session.specs.declared.op.Op.TheVariants as op
 use Rattle.session.specs.declared.op.Answer.TheVariants as answer
-use Rattle.session.specs.Answers.{toldAnswer, ofCase, done, number}
+use Rattle.session.specs.Answers.{told_answer, of_case, done, number}
 use Rattle.session.specs.Step.{told}
 use Rattle.rimjhodek.specs.declared.answers.Flag.{Flag}
 use Rattle.rimjhodek.specs.declared.exceptions.Taken.{Taken}
@@ -79,17 +79,17 @@ pub data Call : Op → Words → Told → Words → Type 0 where
       → interrupt_pending_reads.Post κs a r s → Call op.InterruptPending (words a.0.now ts) (told_bool r) (words a.0.now ts)
   advance_call : (κs : Lifetimes.Lfts 1) (a : World.ArgsD advance.signature κs) (r : Flag) (s : _) (ts : List ℕ)
       → advance_reads.Post κs a r s
-      → Call (op.Advance a.1.0 a.1.1.0) (words a.0.now ts) (ofCase 7 (told_flag r)) (words s.0.now ts)
+      → Call (op.Advance a.1.0 a.1.1.0) (words a.0.now ts) (of_case 7 (told_flag r)) (words s.0.now ts)
   dispatch_call : (κs : Lifetimes.Lfts 1) (a : World.ArgsD dispatch.signature κs) (r : Taken) (s : _) (ts : List ℕ)
       → is_exception a.1.0 ≡ true → dispatch_reads.Post κs a r s
       → Call (op.Dispatch (exception_of a.1.0) a.1.1.0 a.1.1.1.0 a.1.1.1.1.0) (words a.0.now ts)
-      (toldAnswer (answer.Vector (dispatch_in r))) (words s.0.now ts)
+      (told_answer (answer.Vector (dispatch_in r))) (words s.0.now ts)
   eret_call : (κs : Lifetimes.Lfts 1) (a : World.ArgsD eret.signature κs) (r : ℕ) (s : _) (ts : List ℕ) → eret_reads.Post κs a r s
       → Call op.Eret (words a.0.now ts) (number r) (words s.0.now ts)
   -- the table's, beside any words cs of registers
   lookup_call : (κs : Lifetimes.Lfts 1) (a : World.ArgsD lookup.signature κs) (r : Looked) (s : _) (cs : List ℕ)
       → lookup_reads.Post κs a r s
-      → Call (op.Lookup a.1.0 a.1.1.0 a.1.1.1.0) (words cs a.0.now) (ofCase 4 (told_looked r)) (words cs s.0.now)
+      → Call (op.Lookup a.1.0 a.1.1.0 a.1.1.1.0) (words cs a.0.now) (of_case 4 (told_looked r)) (words cs s.0.now)
   jtlb_has_match_call : (κs : Lifetimes.Lfts 1) (a : World.ArgsD jtlb_has_match.signature κs) (r : Bool) (s : _) (cs : List ℕ)
       → jtlb_has_match_reads.Post κs a r s
       → Call (op.JtlbHasMatch a.1.0 a.1.1.0) (words cs a.0.now) (told_bool r) (words cs a.0.now)
@@ -101,7 +101,7 @@ pub data Call : Op → Words → Told → Words → Type 0 where
   translate_via_call : (κs : Lifetimes.Lfts 1) (a : World.ArgsD translate_via.signature κs) (r : Looked) (s : _) (cs : List ℕ)
       → is_mode a.1.1.1.1.0.mode ≡ true → translate_via_reads.Post κs a r s
       → Call (op.TranslateVia a.1.0 a.1.1.0 a.1.1.1.0 (access_in a.1.1.1.1.0)) (words cs a.0.now)
-      (ofCase 5 (told_translated r)) (words cs s.0.now)
+      (of_case 5 (told_translated r)) (words cs s.0.now)
   -- those of both
   write_entry_call : (κs : Lifetimes.Lfts 2) (a : World.ArgsD write_entry.signature κs) (r s : _) → write_entry_reads.Post κs a r s
       → Call (op.WriteEntry a.1.0) (words a.1.1.0.now a.0.now) done (words a.1.1.0.now s.0.now)
@@ -114,7 +114,7 @@ pub data Call : Op → Words → Told → Words → Type 0 where
   pair_size_call : (a : ℕ × Unit {0}) (r : ℕ) (w : Words) → pair_size_reads.Post tt a r a → Call (op.PairSize a.0) w (number r) w
   -- what a caller reads off its words, without an export
   is_shutdown : (w : Words) → Call op.IsShutdown w (told_bool (table_in w.tlb).shutdown) w
-  entry : (i : ℕ) (w : Words) → Call (op.Entry i) w (toldAnswer (answer.Entry (entry_in w.tlb (i % 32)))) w
+  entry : (i : ℕ) (w : Words) → Call (op.Entry i) w (told_answer (answer.Entry (entry_in w.tlb (i % 32)))) w
 
 pub call_steps : {o : Op} {w : Words} {a : Told} {left : Words} → Whole w → Call o w a left → Steps o w a left
 call_steps h (mfc0_call κs a r s ts p) = registers.mfc0_steps κs a r s ts h p
@@ -139,4 +139,4 @@ call_steps h (pair_size_call a r w p) = table.pair_size_steps a r w h p
 call_steps h (is_shutdown w) = unwritten op.IsShutdown w h _ refl
 call_steps h (entry i w) =
     unwritten (op.Entry i) w h _
-    (ap (λ (e : Entry). told (toldAnswer (answer.Entry e)) (session_in w)) (sym (entry_at_lem w.tlb (i % 32) (omega arith))))
+    (ap (λ (e : Entry). told (told_answer (answer.Entry e)) (session_in w)) (sym (entry_at_lem w.tlb (i % 32) (omega arith))))

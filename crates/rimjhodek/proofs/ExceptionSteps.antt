@@ -11,7 +11,7 @@ use Rattle.exception.specs.Returning.{eret_of}
 use Rattle.exception.proofs.Untouched.{dispatch_only, eret_only}
 use Rattle.session.specs.declared.op.Op.TheVariants as op
 use Rattle.session.specs.declared.op.Answer.TheVariants as answer
-use Rattle.session.specs.Answers.{toldAnswer, number}
+use Rattle.session.specs.Answers.{told_answer, number}
 use Rattle.session.specs.Step.{told}
 use Rattle.rimjhodek.specs.declared.exceptions.Exc.{Exc}
 use Rattle.rimjhodek.specs.declared.exceptions.Taken.{Taken}
@@ -65,7 +65,7 @@ module _ (ws : List ℕ) (l : length ws ≡ 38) (e : Exc) (pc : ℕ) (slot : Boo
 pub dispatch_steps : (κs : Lifetimes.Lfts 1) (a : World.ArgsD dispatch.signature κs) (r : Taken) (s : _) (ts : List ℕ)
     → Whole (words a.0.now ts) → is_exception a.1.0 ≡ true → dispatch_reads.Post κs a r s
     → Steps (op.Dispatch (exception_of a.1.0) a.1.1.0 a.1.1.1.0 a.1.1.1.1.0) (words a.0.now ts)
-    (toldAnswer (answer.Vector (dispatch_in r))) (words s.0.now ts)
+    (told_answer (answer.Vector (dispatch_in r))) (words s.0.now ts)
     × (r.refused ≡ 0)
 dispatch_steps κs a r s ts h named p =
     let cs = a.0.now in
@@ -73,7 +73,7 @@ dispatch_steps κs a r s ts h named p =
     let x = p.0 ∙ answers cs h.cop0 a.1.0 a.1.1.0 a.1.1.1.0 a.1.1.1.1.0 named in (
       to_cop0 _ _ h _ c
           (only_fits (in_fits cs h.cop0) (dispatch_only (cop0_in cs) (exception_of a.1.0) a.1.1.0 a.1.1.1.0 a.1.1.1.1.0))
-          (ap (λ (x : Taken). told (toldAnswer (answer.Vector (dispatch_in x))) (record { cop0 = c; tlb = table_in ts })) x)
+          (ap (λ (x : Taken). told (told_answer (answer.Vector (dispatch_in x))) (record { cop0 = c; tlb = table_in ts })) x)
           s.0.now (p.1 ∙ puts cs h.cop0 a.1.0 a.1.1.0 a.1.1.1.0 a.1.1.1.1.0 named),
       ap (λ (x : Taken). x.refused) x,
     )

@@ -12,13 +12,13 @@ use Rattle.addr.specs.declared.segments.Cached.{Cached}
 use Rattle.addr.specs.declared.segments.Cached.TheVariants.{Yes, No}
 use Rattle.addr.specs.declared.segments.Segment.{Segment}
 use Rattle.addr.specs.declared.segments.Segment.TheVariants.{Direct, Mapped}
-use Rattle.addr.specs.Answers.{toldSegment}
+use Rattle.addr.specs.Answers.{told_segment}
 use Rattle.addr.specs.Segments.{direct, how, SegmentRow, row, inside, segment_in, rows_of, erl_row, table_of, segment_of}
-use Rattle.addr.proofs.Answers.{segment-one}
+use Rattle.addr.proofs.Answers.{segment_one}
 use Rattle.rimjhodek.specs.Translation.{is_useg}
 
-pub segment_told_lem : (g : Segment) (a : Access) (v : ℕ) → toldSegment g ≡ toldSegment (segment_of a v) → segment_of a v ≡ g
-segment_told_lem g a v e = sym (segment-one g (segment_of a v) e)
+pub segment_told_lem : (g : Segment) (a : Access) (v : ℕ) → told_segment g ≡ told_segment (segment_of a v) → segment_of a v ≡ g
+segment_told_lem g a v e = sym (segment_one g (segment_of a v) e)
 
 within : (f l v : ℕ) → inside f l v ≡ true → (f ≤ v) × (v ≤ l)
 unfolding inside

@@ -6,7 +6,7 @@ use Rattle.tlb.specs.declared.table.Tlb.{Tlb}
 use Rattle.session.specs.declared.op.Op.{Op}
 use Rattle.session.specs.declared.op.Answer.TheVariants as answer
 use Rattle.session.specs.Record.{with_cop0, with_tlb}
-use Rattle.session.specs.Answers.{toldAnswer}
+use Rattle.session.specs.Answers.{told_answer}
 use Rattle.session.specs.Step.{told, step_of}
 use Rattle.rimjhodek.specs.Registers.{cop0_in, put_in, cop0_words}
 use Rattle.rimjhodek.specs.Table.{table_in, put_micro, table_words}
@@ -32,7 +32,7 @@ leaves cs l c f left e =
 
 -- yes or no, as the session tells it
 abbrev pub told_bool : Bool → Told
-told_bool b = toldAnswer (answer.Flag b)
+told_bool b = told_answer (answer.Flag b)
 
 -- words w, an answer a and the words left: the answer and what the words then mean are the step of o, they are as many, and where no
 -- bit was set that means nothing, none is

@@ -11,10 +11,10 @@ use Rattle.cop0.specs.Clock.{edge_of}
 use Rattle.cop0.specs.Access.{moved32}
 use Rattle.cop0.specs.Advance.{moved, advance_told, advance_of}
 use Rattle.session.specs.declared.op.Op.TheVariants as op
-use Rattle.session.specs.Answers.{ofCase, done, number}
+use Rattle.session.specs.Answers.{of_case, done, number}
 use Rattle.session.specs.Step.{told, flag}
 use Rattle.rimjhodek.specs.declared.answers.Flag.{Flag}
-use Rattle.rimjhodek.specs.Answers.{flagOf}
+use Rattle.rimjhodek.specs.Answers.{flag_of}
 use Rattle.rimjhodek.specs.Registers.{cop0_in}
 use Rattle.rimjhodek.specs.Table.{table_in}
 use Rattle.rimjhodek.specs.Sessions.{words, session_in, Whole}
@@ -76,21 +76,21 @@ set_ip_steps κs a r s ts h p =
     to_cop0 _ _ h _ _ (set_ip_fits (in_fits a.0.now h.cop0) a.1.0 a.1.1.0) refl s.0.now p
 
 -- nothing of an advance's answer is lost
-flag_told : (c : Cop0) (n m : ℕ) → told_flag (flagOf (advance_told c n m)) ≡ advance_told c n m
+flag_told : (c : Cop0) (n m : ℕ) → told_flag (flag_of (advance_told c n m)) ≡ advance_told c n m
 unfolding advance_told
 flag_told c n m = go (ltb n (2 ^ 32)) (edge_of (moved c n m))
   where
-    go : (b e : Bool) → told_flag (flagOf (cond b (answered (bit e ∷ [])) (refused 5))) ≡ cond b (answered (bit e ∷ [])) (refused 5)
+    go : (b e : Bool) → told_flag (flag_of (cond b (answered (bit e ∷ [])) (refused 5))) ≡ cond b (answered (bit e ∷ [])) (refused 5)
     go true true = refl
     go true false = refl
     go false e = refl
 
 pub advance_steps : (κs : Lifetimes.Lfts 1) (a : World.ArgsD advance.signature κs) (r : Flag) (s : _) (ts : List ℕ)
     → Whole (words a.0.now ts) → advance_reads.Post κs a r s
-    → Steps (op.Advance a.1.0 a.1.1.0) (words a.0.now ts) (ofCase 7 (told_flag r)) (words s.0.now ts)
+    → Steps (op.Advance a.1.0 a.1.1.0) (words a.0.now ts) (of_case 7 (told_flag r)) (words s.0.now ts)
 advance_steps κs a r s ts h p =
     let c = cop0_in a.0.now in
     to_cop0 _ _ h _ _ (advance_fits (in_fits a.0.now h.cop0) a.1.0 a.1.1.0)
-    (ap (λ (x : Told). told (ofCase 7 x) (record { cop0 = advance_of c a.1.0 a.1.1.0; tlb = table_in ts }))
+    (ap (λ (x : Told). told (of_case 7 x) (record { cop0 = advance_of c a.1.0 a.1.1.0; tlb = table_in ts }))
     (ap told_flag p.0 ∙ flag_told c a.1.0 a.1.1.0))
     s.0.now p.1

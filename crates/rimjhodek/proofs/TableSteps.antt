@@ -19,11 +19,11 @@ use Rattle.addr.specs.declared.segments.Cached.TheVariants.{Yes, No}
 use Rattle.addr.specs.declared.translate.TranslateError.TheVariants as error
 use Rattle.addr.specs.declared.translate.TranslateAnswer.{TranslateAnswer}
 use Rattle.addr.specs.declared.translate.TranslateAnswer.TheVariants.{At, Failed}
-use Rattle.addr.specs.Answers.{toldTranslate}
+use Rattle.addr.specs.Answers.{told_translate}
 use Rattle.addr.specs.Translate.{translate_answer, translate_table}
 use Rattle.session.specs.declared.op.Op.{Op}
 use Rattle.session.specs.declared.op.Op.TheVariants as op
-use Rattle.session.specs.Answers.{ofCase, done, number}
+use Rattle.session.specs.Answers.{of_case, done, number}
 use Rattle.session.specs.Step.{told, flag, step_of}
 use Rattle.rimjhodek.specs.declared.table.Looked.{Looked}
 use Rattle.rimjhodek.specs.declared.modes.By.{By}
@@ -74,13 +74,13 @@ looked_told (Fault fault.Modified) = refl
 abbrev pub told_translated : Looked → Told
 told_translated r = answered (cond (eqb r.error 0) (r.addr ∷ bit (not r.uncached) ∷ r.entry ∷ []) ((r.error - 1) ∷ []))
 
-pub translated_told : (a : TranslateAnswer) → told_translated (translated_of a) ≡ toldTranslate a
+pub translated_told : (a : TranslateAnswer) → told_translated (translated_of a) ≡ told_translate a
 translated_told (At p) = go p.cached
   where
     reached : Cached → TranslateAnswer
     reached c = At (record { addr = p.addr; cached = c; entry = p.entry })
 
-    go : (c : Cached) → told_translated (translated_of (reached c)) ≡ toldTranslate (reached c)
+    go : (c : Cached) → told_translated (translated_of (reached c)) ≡ told_translate (reached c)
     go Yes = refl
     go No = refl
 translated_told (Failed error.Address) = refl
@@ -109,11 +109,11 @@ module _ (o : Op) (cs ts : List ℕ) (h : Whole (words cs ts)) (a : Told) where
 
 pub lookup_steps : (κs : Lifetimes.Lfts 1) (a : World.ArgsD lookup.signature κs) (r : Looked) (s : _) (cs : List ℕ)
     → Whole (words cs a.0.now) → lookup_reads.Post κs a r s
-    → Steps (op.Lookup a.1.0 a.1.1.0 a.1.1.1.0) (words cs a.0.now) (ofCase 4 (told_looked r)) (words cs s.0.now)
+    → Steps (op.Lookup a.1.0 a.1.1.0 a.1.1.1.0) (words cs a.0.now) (of_case 4 (told_looked r)) (words cs s.0.now)
 lookup_steps κs a r s cs h p =
     let ts = a.0.now in
     to_micro _ cs ts h _ _ (looked_fits ts a.1.0 a.1.1.0)
-    (ap (λ (x : Told). told (ofCase 4 x) (record { cop0 = cop0_in cs; tlb = lookup_table (table_in ts) a.1.0 a.1.1.0 }))
+    (ap (λ (x : Told). told (of_case 4 x) (record { cop0 = cop0_in cs; tlb = lookup_table (table_in ts) a.1.0 a.1.1.0 }))
     (ap told_looked p.0 ∙ looked_told (lookup_answer (table_in ts) a.1.0 a.1.1.0 a.1.1.1.0)))
     s.0.now p.1
 
@@ -181,12 +181,12 @@ module _ (ws : List ℕ) (v asid : ℕ) (store : Bool) (b : By) where
 pub translate_via_steps : (κs : Lifetimes.Lfts 1) (a : World.ArgsD translate_via.signature κs) (r : Looked) (s : _) (cs : List ℕ)
     → Whole (words cs a.0.now) → is_mode a.1.1.1.1.0.mode ≡ true → translate_via_reads.Post κs a r s
     → Steps (op.TranslateVia a.1.0 a.1.1.0 a.1.1.1.0 (access_in a.1.1.1.1.0)) (words cs a.0.now)
-    (ofCase 5 (told_translated r)) (words cs s.0.now)
+    (of_case 5 (told_translated r)) (words cs s.0.now)
 translate_via_steps κs a r s cs h named p =
     let ts = a.0.now in
     let b = a.1.1.1.1.0 in
     to_micro _ cs ts h _ _ (translated_fits ts a.1.0 a.1.1.0 (access_in b))
-    (ap (λ (x : Told). told (ofCase 5 x) (record { cop0 = cop0_in cs; tlb = translate_table (table_in ts) a.1.0 a.1.1.0 (access_in b) }))
+    (ap (λ (x : Told). told (of_case 5 x) (record { cop0 = cop0_in cs; tlb = translate_table (table_in ts) a.1.0 a.1.1.0 (access_in b) }))
     (ap told_translated (p.0 ∙ answers ts a.1.0 a.1.1.0 a.1.1.1.0 b named)
     ∙ translated_told (translate_answer (table_in ts) a.1.0 a.1.1.0 a.1.1.1.0 (access_in b))))
     s.0.now (p.1 ∙ ap (put_micro ts) (leaves ts a.1.0 a.1.1.0 a.1.1.1.0 b named))

@@ -12,7 +12,7 @@ use Rattle.exception.specs.Vectors.{kind_number, is_reset, vector_of}
 use Rattle.exception.specs.Epilogue.{recorded, addressed, handling}
 use Rattle.exception.specs.Taking.{dispatch_of}
 use Rattle.exception.specs.Taking as taking
-use Rattle.exception.proofs.Answers.{kind-one}
+use Rattle.exception.proofs.Answers.{kind_one}
 use Rattle.exception.proofs.Keeping.{recorded_by, addressed_by}
 use Rattle.rimjhodek.specs.declared.exceptions.Exc.{Exc}
 use Rattle.rimjhodek.specs.Registers.{cop0_in, put_in}
@@ -54,7 +54,7 @@ module _ (ws : List ℕ) (exc : Exception) (pc : ℕ) (slot : Bool) (bad : ℕ) 
   pub told : (s : ℕ) (k : VectorKind) → s ≡ read_of c Status → kind_number k ≡ kind_number (vector_kind_of exc)
       → taken_of (answered (vector_of s k ∷ 2 ∷ [])) ≡ taken_of (answered (dispatch_values (dispatch_of c exc pc slot bad).dispatch))
   unfolding dispatch_of
-  told s k es ek = rw (proper, es, kind-one k (vector_kind_of exc) ek)
+  told s k es ek = rw (proper, es, kind_one k (vector_kind_of exc) ek)
 
   module _ (long : length ws ≡ 38) (ws₁ : List ℕ) (e₁ : ws₁ ≡ put_in ws (recorded c exc pc slot)) where
     caused : Made ws ws₁ (recorded c exc pc slot)

@@ -12,8 +12,8 @@ value t i = slice_index t.values i
 abbrev pub flag : Told → ℕ → Bool
 flag t i = value t i == 1
 
-abbrev pub flagOf : Told → Flag
-flagOf t = record { refused = t.number; is = flag t 0 }
+abbrev pub flag_of : Told → Flag
+flag_of t = record { refused = t.number; is = flag t 0 }
 
 abbrev pub number_of : Told → Number
 number_of t = record { refused = t.number; value = value t 0 }
@@ -21,5 +21,5 @@ number_of t = record { refused = t.number; value = value t 0 }
 abbrev pub plan_of : Told → Plan
 plan_of t = record { refused = t.number; plan = value t 0; addr = value t 1 }
 
-abbrev pub evictionOf : Told → Eviction
-evictionOf t = record { refused = t.number; evict = flag t 0; addr = value t 1 }
+abbrev pub eviction_of : Told → Eviction
+eviction_of t = record { refused = t.number; evict = flag t 0; addr = value t 1 }

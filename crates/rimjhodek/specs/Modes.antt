@@ -7,7 +7,7 @@ use Rattle.addr.specs.declared.access.Access.{Access}
 use Rattle.addr.specs.declared.segments.Cached.{Cached}
 use Rattle.addr.specs.declared.segments.Segment.{Segment}
 use Rattle.addr.specs.declared.segments.Segment.TheVariants.{Direct, Mapped, Invalid}
-use Rattle.addr.specs.Answers.{cachedNumber}
+use Rattle.addr.specs.Answers.{cached_number}
 use Rattle.addr.specs.Segments.{segment_of}
 use Rattle.rimjhodek.specs.declared.modes.By.{By}
 use Rattle.rimjhodek.specs.declared.modes.Granted.{Granted}
@@ -33,11 +33,11 @@ abbrev pub granted_of : Told → Granted
 granted_of t = record { refused = t.number; mode = value t 0; wide = flag t 1; erl = flag t 2 }
 
 abbrev pub is_cached : Cached → Bool
-is_cached c = cachedNumber c == 1
+is_cached c = cached_number c == 1
 
 -- 0 directly, with the caching and the address; 1 by the TLB; 2 not at all
 abbrev pub segment_values : Segment → List ℕ
-segment_values (Direct p c) = 0 ∷ cachedNumber c ∷ p ∷ []
+segment_values (Direct p c) = 0 ∷ cached_number c ∷ p ∷ []
 segment_values Mapped = 1 ∷ []
 segment_values Invalid = 2 ∷ []
 

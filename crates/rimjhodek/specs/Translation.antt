@@ -4,7 +4,7 @@ use Rattle.bits.specs.Field.{field_of}
 use Rattle.tlb.specs.declared.table.Tlb.{Tlb}
 use Rattle.addr.specs.declared.translate.TranslateAnswer.{TranslateAnswer}
 use Rattle.addr.specs.declared.translate.TranslateAnswer.TheVariants.{At, Failed}
-use Rattle.addr.specs.Answers.{errorNumber}
+use Rattle.addr.specs.Answers.{error_number}
 use Rattle.addr.specs.Segments.{inside}
 use Rattle.addr.specs.Translate.{translate_answer, translate_table}
 use Rattle.rimjhodek.specs.declared.modes.By.{By}
@@ -16,7 +16,7 @@ use Rattle.rimjhodek.specs.Table.{failed}
 -- error 0 is none; a failure is its number and 1
 abbrev pub translated_of : TranslateAnswer → Looked
 translated_of (At p) = record { error = 0; uncached = not (is_cached p.cached); entry = p.entry; addr = p.addr }
-translated_of (Failed e) = failed (1 + errorNumber e)
+translated_of (Failed e) = failed (1 + error_number e)
 
 -- a number that names no mode is refused, and changes nothing
 unfoldable pub via_answer : Tlb → ℕ → ℕ → Bool → By → Looked

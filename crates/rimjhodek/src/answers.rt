@@ -1,8 +1,8 @@
 // The caches' answers as they cross: the number of the refusal, or 0, and then the answer's values, each 0 where there is none.
 ghost use Rattle.std.specs.Prelude.{◌≡◌};
-ghost use Rattle.cache.specs.Answers.{told_done, toldValue, told_plan, toldWriteback};
+ghost use Rattle.cache.specs.Answers.{told_done, told_value, told_plan, told_writeback};
 ghost use Rattle.cache.specs.Both.{hits_told};
-ghost use Rattle.rimjhodek.specs.Answers.{flagOf, number_of, plan_of, evictionOf};
+ghost use Rattle.rimjhodek.specs.Answers.{flag_of, number_of, plan_of, eviction_of};
 
 use cache::{Done, PlanAnswer, Value, WritebackAnswer};
 use tags::{tag_array, tag_word};
@@ -51,7 +51,7 @@ pub(crate) fn done_of(done: Done) -> u8
 
 // Whether an address hits: a cache's `hits` without the enum that it answers by, which costs more than the question.
 pub(crate) fn hits_in(tags: &[u32], addr: u32, size: u32) -> Flag
-    ensures { result ≡ flagOf (hits_told size tags.now addr) }
+    ensures { result ≡ flag_of (hits_told size tags.now addr) }
 {
     if tag_array::is_whole(tags) {
         let word = tag_array::word_for(tags, addr, size);
@@ -67,7 +67,7 @@ pub(crate) fn hits_in(tags: &[u32], addr: u32, size: u32) -> Flag
 }
 
 pub(crate) fn number_of(value: Value) -> Number
-    ensures { result ≡ number_of (toldValue value) }
+    ensures { result ≡ number_of (told_value value) }
 {
     match value {
         Value::Of(value) => Number { refused: 0, value },
@@ -103,7 +103,7 @@ pub(crate) fn plan_of(answer: PlanAnswer) -> Plan
 }
 
 pub(crate) fn eviction_of(answer: WritebackAnswer) -> Eviction
-    ensures { result ≡ evictionOf (toldWriteback answer) }
+    ensures { result ≡ eviction_of (told_writeback answer) }
 {
     match answer {
         WritebackAnswer::None => Eviction {

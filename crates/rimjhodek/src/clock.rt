@@ -2,7 +2,7 @@
 ghost use Rattle.std.specs.Prelude.{◌≡◌};
 ghost use Rattle.cop0.specs.Clock.{count_of, timer_matches_of, edge_of, asked, ticks_until_match_of};
 ghost use Rattle.cop0.specs.Advance.{advance_told, advance_of};
-ghost use Rattle.rimjhodek.specs.Answers.{flagOf};
+ghost use Rattle.rimjhodek.specs.Answers.{flag_of};
 ghost use Rattle.rimjhodek.specs.Registers.{cop0_in, put_in, comes_to_compare};
 
 use crate::answers::Flag;
@@ -58,7 +58,7 @@ fn is_reached(count: u32, compare: u32, last: u32) -> bool
 // Moves the clock by `counts` and Random by `steps`, asks the timer and raises its interrupt on an edge.
 #[unsafe(no_mangle)]
 pub extern "C" fn rimjhodek_advance(cop0: &mut [u64; 38], counts: u64, steps: u64) -> Flag
-    ensures { (result ≡ flagOf (advance_told (cop0_in cop0.old) counts steps))
+    ensures { (result ≡ flag_of (advance_told (cop0_in cop0.old) counts steps))
         × (cop0.new ≡ put_in cop0.old (advance_of (cop0_in cop0.old) counts steps)) }
 {
     sized(*cop0);

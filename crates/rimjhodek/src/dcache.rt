@@ -4,7 +4,7 @@ ghost use Rattle.tags.specs.Words.{hit_of};
 ghost use Rattle.tags.specs.Places.{word_for};
 ghost use Rattle.cache.specs.Both.{hits_told, load_told, resident_told, tags_told, store_tags, both_told, fresh_part, install_bytes, install_tags};
 ghost use Rattle.cache.specs.Data.{plan_told, plan_bytes, read_told, write_told, write_bytes, write_tags, flush_told, flush_bytes, flush_tags, create_told, create_bytes, create_tags};
-ghost use Rattle.rimjhodek.specs.Answers.{flagOf, number_of, plan_of, evictionOf};
+ghost use Rattle.rimjhodek.specs.Answers.{flag_of, number_of, plan_of, eviction_of};
 
 use crate::answers;
 use crate::answers::{Eviction, Flag, Number, Plan};
@@ -38,7 +38,7 @@ pub extern "C" fn rimjhodek_dcache_new(lines: &mut [u8], tags: &mut [u32]) -> u8
 
 #[unsafe(no_mangle)]
 pub extern "C" fn rimjhodek_dcache_hits(tags: &[u32], addr: u32) -> Flag
-    ensures { result ≡ flagOf (hits_told 16 tags.now addr) }
+    ensures { result ≡ flag_of (hits_told 16 tags.now addr) }
 {
     answers::hits_in(tags, addr, 16)
 }
@@ -125,7 +125,7 @@ pub extern "C" fn rimjhodek_dcache_flush_index(
     invalidate: bool,
     clean: bool,
 ) -> DataLine
-    ensures { (result.eviction ≡ evictionOf (flush_told lines.now tags.old addr))
+    ensures { (result.eviction ≡ eviction_of (flush_told lines.now tags.old addr))
         × (result.«data» ≡ flush_bytes lines.now tags.old addr)
         × (tags.new ≡ flush_tags lines.now tags.old addr invalidate clean) }
 {
@@ -144,7 +144,7 @@ pub extern "C" fn rimjhodek_dcache_create_dirty_exclusive(
     tags: &mut [u32],
     addr: u32,
 ) -> DataLine
-    ensures { (result.eviction ≡ evictionOf (create_told lines.now tags.old addr))
+    ensures { (result.eviction ≡ eviction_of (create_told lines.now tags.old addr))
         × (result.«data» ≡ create_bytes lines.now tags.old addr)
         × (tags.new ≡ create_tags lines.now tags.old addr) }
 {

@@ -6,7 +6,7 @@ ghost use Rattle.exception.specs.Kinds.{exc_code_of, vector_kind_of, writes_bad_
 ghost use Rattle.exception.specs.Vectors.{kind_number, vector_of};
 ghost use Rattle.exception.specs.Taking.{nmi_of, dispatch_of};
 ghost use Rattle.exception.specs.Returning.{eret_of};
-ghost use Rattle.rimjhodek.specs.Answers.{flagOf, number_of};
+ghost use Rattle.rimjhodek.specs.Answers.{flag_of, number_of};
 ghost use Rattle.rimjhodek.specs.Numbered.{unknown, if_named};
 ghost use Rattle.rimjhodek.specs.Registers.{cop0_in, put_in};
 ghost use Rattle.rimjhodek.specs.Exceptions.{is_exception, exception_of, is_kind, kind_of, dispatch_values, taken_of, dispatch_told, dispatched_of};
@@ -127,7 +127,7 @@ pub extern "C" fn rimjhodek_vector_kind_of(exc: Exc) -> Number
 
 #[unsafe(no_mangle)]
 pub extern "C" fn rimjhodek_writes_bad_vaddr(exc: Exc) -> Flag
-    ensures { result ≡ flagOf (if_named (is_exception exc) (bit (writes_bad_vaddr_of (exception_of exc)) ∷ [])) }
+    ensures { result ≡ flag_of (if_named (is_exception exc) (bit (writes_bad_vaddr_of (exception_of exc)) ∷ [])) }
 {
     if is_exception(exc) {
         return Flag {

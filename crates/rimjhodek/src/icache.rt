@@ -4,7 +4,7 @@ ghost use Rattle.tags.specs.Words.{hit_of};
 ghost use Rattle.tags.specs.Places.{word_for};
 ghost use Rattle.cache.specs.Both.{hits_told, load_told, resident_told, tags_told, store_tags, both_told, fresh_part, install_bytes, install_tags};
 ghost use Rattle.cache.specs.Instruction.{word_told, invalidate_tags, hit_invalidate_tags, flush_told, flush_bytes};
-ghost use Rattle.rimjhodek.specs.Answers.{flagOf, number_of, evictionOf};
+ghost use Rattle.rimjhodek.specs.Answers.{flag_of, number_of, eviction_of};
 
 use crate::answers;
 use crate::answers::{Eviction, Flag, Number};
@@ -30,7 +30,7 @@ pub extern "C" fn rimjhodek_icache_new(lines: &mut [u8], tags: &mut [u32]) -> u8
 
 #[unsafe(no_mangle)]
 pub extern "C" fn rimjhodek_icache_hits(tags: &[u32], addr: u32) -> Flag
-    ensures { result ≡ flagOf (hits_told 32 tags.now addr) }
+    ensures { result ≡ flag_of (hits_told 32 tags.now addr) }
 {
     answers::hits_in(tags, addr, 32)
 }
@@ -99,7 +99,7 @@ pub extern "C" fn rimjhodek_icache_flush_hit(
     tags: &[u32],
     addr: u32,
 ) -> InstructionLine
-    ensures { (result.eviction ≡ evictionOf (flush_told lines.now tags.now addr))
+    ensures { (result.eviction ≡ eviction_of (flush_told lines.now tags.now addr))
         × (result.«data» ≡ flush_bytes lines.now tags.now addr) }
 {
     let flushed = icache::flush_hit(lines, tags, addr);

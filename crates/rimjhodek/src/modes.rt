@@ -2,7 +2,7 @@
 ghost use Rattle.std.specs.Prelude.{◌≡◌};
 ghost use Rattle.addr.specs.declared.access.AccessAnswer.TheVariants.{Of};
 ghost use Rattle.addr.specs.Access.{access_of};
-ghost use Rattle.addr.specs.Answers.{modeNumber, toldAccess};
+ghost use Rattle.addr.specs.Answers.{mode_number, told_access};
 ghost use Rattle.bits.specs.Told.{answered};
 ghost use Rattle.rimjhodek.specs.Modes.{is_mode, mode_in, access_in, granted_of, is_cached, segment_values, reached_of, segment_told};
 
@@ -94,7 +94,7 @@ fn reaching(segment: Segment) -> Reached
 }
 
 fn granting(asked: Access) -> Granted
-    ensures { result ≡ granted_of (toldAccess (Of asked)) }
+    ensures { result ≡ granted_of (told_access (Of asked)) }
 {
     let mode = asked.mode;
     Granted {
@@ -134,7 +134,7 @@ fn mode_in(mode: u8) -> Mode
 }
 
 fn number_of(mode: Mode) -> u8
-    ensures { result ≡ modeNumber mode }
+    ensures { result ≡ mode_number mode }
 {
     match mode {
         Mode::Kernel => 0,

@@ -1,6 +1,6 @@
 // Translation.
 ghost use Rattle.std.specs.Prelude.{◌≡◌};
-ghost use Rattle.addr.specs.Answers.{toldSegment};
+ghost use Rattle.addr.specs.Answers.{told_segment};
 ghost use Rattle.addr.specs.Segments.{segment_of};
 ghost use Rattle.addr.specs.Translate.{translate_answer, translate_table};
 ghost use Rattle.rimjhodek.specs.Modes.{access_in};
@@ -53,7 +53,7 @@ fn translate(tlb: &mut [u64; 132], vaddr: u64, asid: u8, store: bool, access: By
 
 // The segment of an address. The low 2 GB, where most mapped addresses are, are asked before the others.
 fn segment_of(access: By, vaddr: u64) -> Segment
-    ensures { toldSegment result ≡ toldSegment (segment_of (access_in access) vaddr) }
+    ensures { told_segment result ≡ told_segment (segment_of (access_in access) vaddr) }
 {
     if is_useg(access.erl, vaddr) {
         return Segment::Mapped;

@@ -9,19 +9,19 @@ use Rattle.bits.specs.Told.{Told}
 use Rattle.bits.proofs.Same.{one_to_one}
 use Rattle.bits.proofs.FieldLaws.{bit_undone}
 use Rattle.cop0.specs.declared.advance.AdvanceAnswer.TheVariants as advance
-use Rattle.cop0.proofs.Answers.{advanceAt, advance-undone}
+use Rattle.cop0.proofs.Answers.{advance_at, advance_undone}
 use Rattle.tlb.specs.declared.entries.PageEntry.{PageEntry}
 use Rattle.tlb.specs.declared.entries.Entry.{Entry}
 use Rattle.tlb.specs.declared.entries.LookupAnswer.TheVariants as lookup
-use Rattle.tlb.proofs.Answers.{lookupAt, lookup-undone}
+use Rattle.tlb.proofs.Answers.{lookup_at, lookup_undone}
 use Rattle.addr.specs.declared.translate.TranslateAnswer.TheVariants as translate
-use Rattle.addr.proofs.Answers.{translateAt, translate-undone}
+use Rattle.addr.proofs.Answers.{translate_at, translate_undone}
 use Rattle.exception.specs.declared.epilogue.Dispatch.{Dispatch}
 use Rattle.session.specs.declared.op.Answer.{Answer}
 use Rattle.session.specs.declared.op.Answer.TheVariants as answer
 use Rattle.session.specs.declared.session.Session.{Session}
 use Rattle.session.specs.declared.session.Stepped.{Stepped}
-use Rattle.session.specs.Answers.{entryValues, toldAnswer}
+use Rattle.session.specs.Answers.{entry_values, told_answer}
 use Rattle.session.specs.Step.{Outcome, outcome}
 
 -- the half whose values start at place i
@@ -40,8 +40,8 @@ entry_of vs =
       lo1 = half_at vs 9 10 11 12;
     }
 
-entry-undone : (e : Entry) → entry_of (entryValues e) ≡ e
-entry-undone e =
+entry_undone : (e : Entry) → entry_of (entry_values e) ≡ e
+entry_undone e =
     rw (
       bit_undone e.global,
       bit_undone e.lo0.dirty,
@@ -54,43 +54,43 @@ abbrev dispatch_of : List ℕ → Dispatch
 dispatch_of vs = record { vector = get_or vs 0 0; stall_cycles = get_or vs 1 0 }
 
 -- the answer of case k
-abbrev ofKind : ℕ → ℕ → List ℕ → Answer
-ofKind k n vs =
+abbrev of_kind : ℕ → ℕ → List ℕ → Answer
+of_kind k n vs =
     cond (eqb k 0) answer.Done
     (cond (eqb k 1) (answer.Number (get_or vs 0 0))
     (cond (eqb k 2) (answer.Flag (eqb (get_or vs 0 0) 1))
     (cond (eqb k 3) (answer.Entry (entry_of vs))
-    (cond (eqb k 4) (answer.Lookup (lookupAt vs))
-    (cond (eqb k 5) (answer.Translate (translateAt vs))
+    (cond (eqb k 4) (answer.Lookup (lookup_at vs))
+    (cond (eqb k 5) (answer.Translate (translate_at vs))
     (cond (eqb k 6) (answer.Vector (dispatch_of vs))
-    (answer.Advance (advanceAt n vs))))))))
+    (answer.Advance (advance_at n vs))))))))
 
-abbrev answerAt : ℕ → List ℕ → Answer
-answerAt n [] = answer.Advance (advanceAt n [])
-answerAt n (k ∷ vs) = ofKind k n vs
+abbrev answer_at : ℕ → List ℕ → Answer
+answer_at n [] = answer.Advance (advance_at n [])
+answer_at n (k ∷ vs) = of_kind k n vs
 
-answer-undone : (a : Answer) → answerAt (toldAnswer a).number (toldAnswer a).values ≡ a
-answer-undone answer.Done = refl
-answer-undone (answer.Number v) = refl
-answer-undone (answer.Flag b) = ap answer.Flag (bit_undone b)
-answer-undone (answer.Entry e) = ap answer.Entry (entry-undone e)
-answer-undone (answer.Lookup (lookup.Found t)) = ap answer.Lookup (lookup-undone (lookup.Found t))
-answer-undone (answer.Lookup (lookup.Fault f)) = ap answer.Lookup (lookup-undone (lookup.Fault f))
-answer-undone (answer.Translate (translate.At p)) = ap answer.Translate (translate-undone (translate.At p))
-answer-undone (answer.Translate (translate.Failed e)) = ap answer.Translate (translate-undone (translate.Failed e))
-answer-undone (answer.Vector d) = refl
-answer-undone (answer.Advance (advance.Edge e)) = ap answer.Advance (advance-undone (advance.Edge e))
-answer-undone (answer.Advance (advance.Refused n)) = refl
+answer_undone : (a : Answer) → answer_at (told_answer a).number (told_answer a).values ≡ a
+answer_undone answer.Done = refl
+answer_undone (answer.Number v) = refl
+answer_undone (answer.Flag b) = ap answer.Flag (bit_undone b)
+answer_undone (answer.Entry e) = ap answer.Entry (entry_undone e)
+answer_undone (answer.Lookup (lookup.Found t)) = ap answer.Lookup (lookup_undone (lookup.Found t))
+answer_undone (answer.Lookup (lookup.Fault f)) = ap answer.Lookup (lookup_undone (lookup.Fault f))
+answer_undone (answer.Translate (translate.At p)) = ap answer.Translate (translate_undone (translate.At p))
+answer_undone (answer.Translate (translate.Failed e)) = ap answer.Translate (translate_undone (translate.Failed e))
+answer_undone (answer.Vector d) = refl
+answer_undone (answer.Advance (advance.Edge e)) = ap answer.Advance (advance_undone (advance.Edge e))
+answer_undone (answer.Advance (advance.Refused n)) = refl
 
-pub answer-one : (a a' : Answer) → toldAnswer a ≡ toldAnswer a' → a ≡ a'
-answer-one = one_to_one toldAnswer (λ (t : Told). answerAt t.number t.values) answer-undone
+pub answer_one : (a a' : Answer) → told_answer a ≡ told_answer a' → a ≡ a'
+answer_one = one_to_one told_answer (λ (t : Told). answer_at t.number t.values) answer_undone
 
 abbrev made : Answer → Session → Stepped
 made a s = record { answer = a; session = s }
 
 -- so that an outcome has one result
-pub outcome-one : (r r' : Stepped) → outcome r ≡ outcome r' → r ≡ r'
-outcome-one r r' e =
+pub outcome_one : (r r' : Stepped) → outcome r ≡ outcome r' → r ≡ r'
+outcome_one r r' e =
     ap₂ made
-    (answer-one r.answer r'.answer (ap (λ (o : Outcome). o.answer) e))
+    (answer_one r.answer r'.answer (ap (λ (o : Outcome). o.answer) e))
     (ap (λ (o : Outcome). o.session) e)

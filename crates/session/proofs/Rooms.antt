@@ -35,7 +35,7 @@ use Rattle.session.specs.declared.session.Stepped.{Stepped}
 use Rattle.session.specs.declared.op.Op.{Op}
 use Rattle.session.specs.declared.op.Op.TheVariants as op
 use Rattle.session.specs.Record.{fresh, with_cop0}
-use Rattle.session.specs.Answers.{ofCase}
+use Rattle.session.specs.Answers.{of_case}
 use Rattle.session.specs.Step.{Outcome, told, step_by, advance_by, step_of}
 use Rattle.session.specs.Run.{Ran, preceded, run_by, run, Parts, in_parts, advances, edges_told, edges_in}
 use Rattle.session.specs.Plain.{plain_advance, plain_run}
@@ -56,9 +56,9 @@ module _ (s : Session) (k : Steady s.cop0) (n m : ℕ) where
       → advance_by n m s ≡ cond b (told (answered (7 ∷ edges n c ∷ [])) (with_cop0 s (steps m (ticks n c)))) (told (refused 5) s)
   by_limit true e =
       let h : n < 2 ^ 32 = ltb→lt n (2 ^ 32) (subst T (sym e) tt) in
-      ap₂ (λ (t : Told) (d : Cop0). told (ofCase 7 t) (with_cop0 s d)) (answer_is c k.kept n m h) (moves_are h)
+      ap₂ (λ (t : Told) (d : Cop0). told (of_case 7 t) (with_cop0 s d)) (answer_is c k.kept n m h) (moves_are h)
   by_limit false e =
-      ap₂ (λ (t : Told) (d : Cop0). told (ofCase 7 t) (with_cop0 s d)) (answer_refused c n m e) (advance_refused c n m e)
+      ap₂ (λ (t : Told) (d : Cop0). told (of_case 7 t) (with_cop0 s d)) (answer_refused c n m e) (advance_refused c n m e)
 
   advance_plain : advance_by n m s ≡ plain_advance n m s
   unfolding plain_advance
@@ -89,11 +89,11 @@ run_advances (p ∷ ps) s = run_advances ps (advance_by p.counts p.moves s).sess
 
 -- an advance's answer reports the same edges here and there
 told_edges : (b e : Bool)
-    → edges_told (ofCase 7 (cond b (answered (bit e ∷ [])) (refused 5))) ≡ reported (cond b (answered (bit e ∷ [])) (refused 5))
+    → edges_told (of_case 7 (cond b (answered (bit e ∷ [])) (refused 5))) ≡ reported (cond b (answered (bit e ∷ [])) (refused 5))
 told_edges true e = sym (add-zero (bit e))
 told_edges false e = refl
 
-advance_edges : (c : Cop0) (n m : ℕ) → edges_told (ofCase 7 (advance_told c n m)) ≡ reported (advance_told c n m)
+advance_edges : (c : Cop0) (n m : ℕ) → edges_told (of_case 7 (advance_told c n m)) ≡ reported (advance_told c n m)
 unfolding advance_told
 advance_edges c n m = told_edges (ltb n (2 ^ 32)) (edge_of (moved c n m))
 

@@ -1,7 +1,7 @@
 // The session's record.
 ghost use Rattle.std.specs.Prelude.{◌≡◌};
 ghost use Rattle.session.specs.Record.{fresh, with_cop0, with_tlb};
-ghost use Rattle.session.specs.Answers.{toldAnswer};
+ghost use Rattle.session.specs.Answers.{told_answer};
 ghost use Rattle.session.specs.Step.{outcome, told};
 
 use crate::op::Answer;
@@ -49,7 +49,7 @@ impl Session {
 
     // An answer beside this session.
     pub(crate) fn tells(self, answer: Answer) -> Stepped
-        ensures { outcome result ≡ told (toldAnswer answer) self }
+        ensures { outcome result ≡ told (told_answer answer) self }
     {
         Stepped {
             answer,

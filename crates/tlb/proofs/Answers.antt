@@ -15,25 +15,25 @@ use Rattle.tlb.specs.declared.entries.LookupAnswer.{LookupAnswer}
 use Rattle.tlb.specs.declared.entries.LookupAnswer.TheVariants.{Found, Fault}
 use Rattle.tlb.specs.Entries.{fault_number, told_lookup}
 
-abbrev pub faultOf : ℕ → TlbFault
-faultOf n = cond (eqb n 0) Refill (cond (eqb n 1) Invalid Modified)
+abbrev pub fault_of : ℕ → TlbFault
+fault_of n = cond (eqb n 0) Refill (cond (eqb n 1) Invalid Modified)
 
-pub fault-undone : (f : TlbFault) → faultOf (fault_number f) ≡ f
-fault-undone Refill = refl
-fault-undone Invalid = refl
-fault-undone Modified = refl
+pub fault_undone : (f : TlbFault) → fault_of (fault_number f) ≡ f
+fault_undone Refill = refl
+fault_undone Invalid = refl
+fault_undone Modified = refl
 
 abbrev pub translated : ℕ → Bool → ℕ → Translated
 translated a u i = record { addr = a; uncached = u; entry = i }
 
-abbrev pub lookupAt : List ℕ → LookupAnswer
-lookupAt [] = Fault Refill
-lookupAt (a ∷ []) = Fault (faultOf a)
-lookupAt (a ∷ u ∷ vs) = Found (translated a (eqb u 1) (get_or vs 0 0))
+abbrev pub lookup_at : List ℕ → LookupAnswer
+lookup_at [] = Fault Refill
+lookup_at (a ∷ []) = Fault (fault_of a)
+lookup_at (a ∷ u ∷ vs) = Found (translated a (eqb u 1) (get_or vs 0 0))
 
-pub lookup-undone : (a : LookupAnswer) → lookupAt (told_lookup a).values ≡ a
-lookup-undone (Found t) = ap (λ (u : Bool). Found (translated t.addr u t.entry)) (bit_undone t.uncached)
-lookup-undone (Fault f) = ap Fault (fault-undone f)
+pub lookup_undone : (a : LookupAnswer) → lookup_at (told_lookup a).values ≡ a
+lookup_undone (Found t) = ap (λ (u : Bool). Found (translated t.addr u t.entry)) (bit_undone t.uncached)
+lookup_undone (Fault f) = ap Fault (fault_undone f)
 
-pub lookup-one : (a a' : LookupAnswer) → told_lookup a ≡ told_lookup a' → a ≡ a'
-lookup-one = one_to_one told_lookup (λ (t : Told). lookupAt t.values) lookup-undone
+pub lookup_one : (a a' : LookupAnswer) → told_lookup a ≡ told_lookup a' → a ≡ a'
+lookup_one = one_to_one told_lookup (λ (t : Told). lookup_at t.values) lookup_undone

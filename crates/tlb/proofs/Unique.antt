@@ -10,7 +10,7 @@ use Rattle.tlb.specs.declared.entries.LookupAnswer.{LookupAnswer}
 use Rattle.tlb.specs.declared.table.Tlb.{Tlb}
 use Rattle.tlb.specs.declared.table.Looked.{Looked}
 use Rattle.tlb.specs.declared.micro.ItlbProbed.{ItlbProbed}
-use Rattle.tlb.proofs.Answers.{lookup-one}
+use Rattle.tlb.proofs.Answers.{lookup_one}
 use Rattle.tlb.proofs.entries.PageEntry.uncached.Reads as uncached
 use Rattle.tlb.proofs.table.Tlb.new.Reads as new
 use Rattle.tlb.proofs.table.Tlb.is_shutdown.Reads as is_shutdown
@@ -50,7 +50,7 @@ looked a t = record { answer = a; tlb = t }
 
 pub lookup_unique : (a : Tlb × (ℕ × (ℕ × (Bool × Unit {0})))) (r r' : Looked) → lookup.Post tt a r a
     → lookup.Post tt a r' a → r ≡ r'
-lookup_unique a r r' p q = ap₂ looked (lookup-one r.answer r'.answer (same p.0 q.0)) (same p.1 q.1)
+lookup_unique a r r' p q = ap₂ looked (lookup_one r.answer r'.answer (same p.0 q.0)) (same p.1 q.1)
 
 pub page_from_unique : (a : ℕ × Unit {0}) (r r' : PageEntry) → page_from.Post tt a r a → page_from.Post tt a r' a → r ≡ r'
 page_from_unique a r r' = same

@@ -19,7 +19,7 @@ use Rattle.tlb.specs.Entries.{matches_of, page_size_of, half_of, translated, hal
 use Rattle.tlb.specs.Table.{entry_at, matching}
 use Rattle.tlb.specs.Lookup.{answer_by, lookup_answer}
 use Rattle.tlb.specs.Former.{unnumbered, fault, former_page, former_half, former_entry, former_by, former_lookup}
-use Rattle.tlb.proofs.Answers.{lookup-one}
+use Rattle.tlb.proofs.Answers.{lookup_one}
 use Rattle.tlb.proofs.OnlyMatch.{only_one}
 use Rattle.tlb.proofs.table.Tlb.lookup.Reads as lookup
 
@@ -104,4 +104,4 @@ module _ (a : Tlb × (ℕ × (ℕ × (Bool × Unit {0})))) (r : Looked) (p : loo
 
   pub call_only : length a.0.entries ≡ 32 → (x : Translated) → r.answer ≡ Found x → Only a.0 a.1.0 a.1.1.0 x.entry
   call_only long x e =
-      found_only a.0 long a.1.0 a.1.1.0 a.1.1.1.0 x (sym (lookup-one r.answer _ p.0) ∙ e)
+      found_only a.0 long a.1.0 a.1.1.0 a.1.1.1.0 x (sym (lookup_one r.answer _ p.0) ∙ e)

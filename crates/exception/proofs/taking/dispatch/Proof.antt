@@ -2,7 +2,7 @@
 use Rattle.std.proofs.Common.{rules}
 use Rattle.exception.specs.Kinds.{vector_kind_of}
 use Rattle.exception.specs.Taking.{taken_of, dispatch_of}
-use Rattle.exception.proofs.Answers.{kind-one}
+use Rattle.exception.proofs.Answers.{kind_one}
 use Rattle.exception.proofs.taking.dispatch.Statement.{statement}
 use Rattle.exception.proofs.taking.dispatch.Tie as tie
 
@@ -20,7 +20,7 @@ unfolding dispatch_of
 returns c =
     let i = c.before.before in
     let k = i.before in
-    let kind = kind-one k.vector_kind_of.result (vector_kind_of k.before.args.exc) k.vector_kind_of.ensures in
+    let kind = kind_one k.vector_kind_of.result (vector_kind_of k.before.args.exc) k.vector_kind_of.ensures in
     rw (c.nmi.ensures, ← kind, ← i.is_reset_lem.ensures, c.before.if1.true)
 
 read-requires : tie.Need-read-requires
@@ -51,7 +51,7 @@ returns-2 c =
     let v = w.before.before in
     let i = v.before.before.before in
     let k = i.before in
-    let kind = kind-one k.vector_kind_of.result (vector_kind_of k.before.args.exc) k.vector_kind_of.ensures in
+    let kind = kind_one k.vector_kind_of.result (vector_kind_of k.before.args.exc) k.vector_kind_of.ensures in
     rw (
       c.entering.ensures,
       c.before.enter.ensures,
@@ -79,7 +79,7 @@ returns-3 c =
     let v = w.before.before in
     let i = v.before.before.before in
     let k = i.before in
-    let kind = kind-one k.vector_kind_of.result (vector_kind_of k.before.args.exc) k.vector_kind_of.ensures in
+    let kind = kind_one k.vector_kind_of.result (vector_kind_of k.before.args.exc) k.vector_kind_of.ensures in
     rw (
       c.entering2.ensures,
       c.before.enter2.ensures,

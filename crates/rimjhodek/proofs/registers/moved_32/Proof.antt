@@ -15,14 +15,14 @@ sign-extend-requires c κs = search rules
 
 returns : tie.Need-returns
 unfolding moved32
-returns c = rw (c.sign-extend.ensures, c.before.before.before.low32.ensures, ← c.before.before.is_IsWide.ensures, c.before.if1.true)
+returns c = rw (c.sign-extend.ensures, c.before.before.before.low32.ensures, ← c.before.before.is_wide.ensures, c.before.if1.true)
 
 zero-extend-requires : tie.Need-zero-extend-requires
 zero-extend-requires c κs = search rules
 
 returns-2 : tie.Need-returns-2
 unfolding moved32
-returns-2 c = rw (c.zero-extend.ensures, c.before.before.before.low32.ensures, ← c.before.before.is_IsWide.ensures, c.before.if1.false)
+returns-2 c = rw (c.zero-extend.ensures, c.before.before.before.low32.ensures, ← c.before.before.is_wide.ensures, c.before.if1.false)
 
 pub moved-32-spec : {M : Type 1} → statement M
 moved-32-spec =

@@ -6,22 +6,22 @@ use Rattle.cop0.proofs.access.Cop0Op.from_rs.Goals as goal
 
 pub returns-in-0 : goal.returns-in-0
 unfolding from_rs_of among
-returns-in-0 c = rw c.in-0.keys1
+returns-in-0 c = rw c.in-0.is
 
 pub returns-in-1 : goal.returns-in-1
 unfolding from_rs_of among
-returns-in-1 c = rw c.in-1.keys2
+returns-in-1 c = rw c.in-1.is
 
 pub returns-in-4 : goal.returns-in-4
 unfolding from_rs_of among
-returns-in-4 c = rw c.in-4.keys3
+returns-in-4 c = rw c.in-4.is
 
 pub returns-in-5 : goal.returns-in-5
 unfolding from_rs_of among
-returns-in-5 c = rw c.in-5.keys4
+returns-in-5 c = rw c.in-5.is
 
 pub returns-in_default : goal.returns-in_default
 unfolding from_rs_of among
 returns-in_default c =
-    let other = c.in_default.rest in
-    rw (ne_eqb _ 0 other.0.0.0.1, ne_eqb _ 1 other.0.0.1, ne_eqb _ 4 other.0.1, ne_eqb _ 5 other.1)
+    let d = c.in_default in
+    rw (ne_eqb _ 0 d.not-0, ne_eqb _ 1 d.not-1, ne_eqb _ 4 d.not-4, ne_eqb _ 5 d.not-5)

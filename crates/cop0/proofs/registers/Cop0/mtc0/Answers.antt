@@ -10,7 +10,7 @@ returns-then-is_wide c =
       c.dmtc0-self.ensures,
       c.sign_extend.ensures,
       c.low32-low.ensures,
-      ← c.is_Is_wide.ensures,
+      ← c.is_wide.ensures,
       c.if-is_wide.true,
     )
 
@@ -21,6 +21,6 @@ returns c =
       c.dmtc0-self-2.ensures,
       c.zero_extend.ensures,
       c.low32-low.ensures,
-      ← c.is_Is_wide.ensures,
+      ← c.is_wide.ensures,
       c.if-is_wide.false,
     )

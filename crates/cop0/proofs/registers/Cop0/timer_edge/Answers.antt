@@ -8,7 +8,7 @@ use Rattle.cop0.proofs.registers.Cop0.timer_edge.Goals as goal
 pub returns-then-to_compare-ge1 : goal.returns-then-to_compare-ge1
 returns-then-to_compare-ge1 c =
     polls c.args.self _ _ _ _
-    (difference 32 _ _ _ (search rules) (search rules) (c.wrapping_sub_u32-traveled.ensures ∙ c.count.ensures))
+    (difference 32 _ _ _ (search rules) (search rules) (c.wrapping_sub_u32-traveled.ensures.value ∙ c.count.ensures))
     c.to_compare-to_compare.ensures
     (sym (simp (le-leb _ _ c.if-to_compare-ge1.true)))
     c.ask-self.ensures
@@ -16,7 +16,7 @@ returns-then-to_compare-ge1 c =
 pub returns-else-to_compare-ge1 : goal.returns-else-to_compare-ge1
 returns-else-to_compare-ge1 c =
     polls c.args.self _ _ _ _
-    (difference 32 _ _ _ (search rules) (search rules) (c.wrapping_sub_u32-traveled.ensures ∙ c.count.ensures))
+    (difference 32 _ _ _ (search rules) (search rules) (c.wrapping_sub_u32-traveled.ensures.value ∙ c.count.ensures))
     c.to_compare-to_compare.ensures
     (simp (lt-leb _ _ c.if-to_compare-ge1.false))
     c.ask-self.ensures
