@@ -1,5 +1,5 @@
 -- `Cop0Op::from_rs` answers the form of each rs field.
-use Rattle.std.proofs.Common.{ne_eqb}
+use Rattle.std.proofs.Common.{arith, ne_eqb}
 use Rattle.cop0.specs.Registers.{among}
 use Rattle.cop0.specs.Access.{from_rs_of}
 use Rattle.cop0.proofs.access.Cop0Op.from_rs.Goals as goal
@@ -23,5 +23,9 @@ returns-in-5 c = rw c.in-5.is
 pub returns-in_default : goal.returns-in_default
 unfolding from_rs_of among
 returns-in_default c =
-    let d = c.in_default in
-    rw (ne_eqb _ 0 d.not-0, ne_eqb _ 1 d.not-1, ne_eqb _ 4 d.not-4, ne_eqb _ 5 d.not-5)
+    rw (
+      ne_eqb c.args.rs 0 (λ is. omega arith),
+      ne_eqb c.args.rs 1 (λ is. omega arith),
+      ne_eqb c.args.rs 4 (λ is. omega arith),
+      ne_eqb c.args.rs 5 (λ is. omega arith),
+    )

@@ -1,5 +1,5 @@
 -- `Cop0::ARCH_MASK` is the table of the readable bits.
-use Rattle.std.proofs.Common.{refl, rules}
+use Rattle.std.proofs.Common.{refl}
 use Rattle.cop0.specs.Registers.{arch_mask}
 use Rattle.cop0.proofs.registers.Cop0.arch_mask.Goals as goal
 

@@ -1,5 +1,4 @@
 -- `Cop0::ask` moves the last-asked mark.
-use Rattle.std.proofs.Common.{rules}
 use Rattle.cop0.specs.Clock.{asked}
 use Rattle.cop0.proofs.registers.Cop0.ask.Goals as goal
 

@@ -1,5 +1,5 @@
 -- `Cop0::count_ticks_until_timer_match` is the distance, or the largest u32 at distance 0.
-use Rattle.std.proofs.Common.{rules, eq-eqb, ne_eqb}
+use Rattle.std.proofs.Common.{eq-eqb, ne_eqb}
 use Rattle.cop0.specs.Clock.{ticks_until_match_of}
 use Rattle.cop0.proofs.registers.Cop0.count_ticks_until_timer_match.Goals as goal
 

@@ -1,5 +1,4 @@
 -- `Cop0::dmtc0` sets the latch and writes.
-use Rattle.std.proofs.Common.{rules}
 use Rattle.cop0.specs.Access.{dmtc0_of}
 use Rattle.cop0.proofs.registers.Cop0.dmtc0.Goals as goal
 

@@ -1,5 +1,5 @@
 -- `Cop0::interrupt_pending` tests the conditions one by one.
-use Rattle.std.proofs.Common.{rules, eq-eqb, ne_eqb}
+use Rattle.std.proofs.Common.{eq-eqb, ne_eqb}
 use Rattle.cop0.specs.Interrupt.{interrupt_pending_of}
 use Rattle.cop0.proofs.registers.Cop0.interrupt_pending.Goals as goal
 

@@ -1,5 +1,4 @@
 -- `Cop0::mtc0` extends the low half by the register's width.
-use Rattle.std.proofs.Common.{rules}
 use Rattle.cop0.specs.Access.{moved32}
 use Rattle.cop0.proofs.registers.Cop0.mtc0.Goals as goal
 

@@ -1,5 +1,5 @@
 -- `Cop0::read` goes by the register number.
-use Rattle.std.proofs.Common.{rules, eq-eqb, ne_eqb}
+use Rattle.std.proofs.Common.{eq-eqb, ne_eqb}
 use Rattle.cop0.specs.File.{read_at}
 use Rattle.cop0.proofs.registers.Cop0.read.Goals as goal
 

@@ -1,5 +1,4 @@
 -- `Cop0::set_hardware` stores the bits that the register has.
-use Rattle.std.proofs.Common.{rules}
 use Rattle.cop0.specs.File.{set_hardware_of}
 use Rattle.cop0.proofs.registers.Cop0.set_hardware.Goals as goal
 

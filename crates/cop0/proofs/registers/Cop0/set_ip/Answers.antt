@@ -1,5 +1,4 @@
 -- `Cop0::set_ip` replaces one bit of Cause.
-use Rattle.std.proofs.Common.{rules}
 use Rattle.cop0.specs.Interrupt.{set_ip_of}
 use Rattle.cop0.proofs.registers.Cop0.set_ip.Goals as goal
 

@@ -1,5 +1,5 @@
 -- `Cop0::tick_random` is one step.
-use Rattle.std.proofs.Common.{◌∙◌, rules}
+use Rattle.std.proofs.Common.{◌∙◌}
 use Rattle.cop0.proofs.RandomLaws.{six_of, reloads, falls}
 use Rattle.cop0.proofs.registers.Cop0.tick_random.Goals as goal
 

@@ -1,6 +1,6 @@
 -- `Cop0::tick_random_by` is n steps: the closed form against the walk and the cycle.
-use Rattle.std.proofs.Common.{◌∙◌, rules}
-use Rattle.cop0.proofs.RandomLaws.{six_of, walks, cycles, cycle_below}
+use Rattle.std.proofs.Common.{◌∙◌}
+use Rattle.cop0.proofs.RandomLaws.{six_of, walks, cycles}
 use Rattle.cop0.proofs.registers.Cop0.tick_random_by.Goals as goal
 
 pub returns-then-n-d : goal.returns-then-n-d

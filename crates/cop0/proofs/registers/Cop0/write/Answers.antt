@@ -1,5 +1,5 @@
 -- `Cop0::write` replaces the bits under the mask, and goes by the register number.
-use Rattle.std.proofs.Common.{ap, ◌∙◌, rules}
+use Rattle.std.proofs.Common.{ap, ◌∙◌}
 use Rattle.cop0.specs.Clock.{asked}
 use Rattle.cop0.proofs.FileLaws.{to_count, to_compare, to_wired, to_other}
 use Rattle.cop0.proofs.registers.Cop0.write.Goals as goal
