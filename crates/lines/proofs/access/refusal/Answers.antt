@@ -1,6 +1,5 @@
 -- `access::refusal` makes the tests in their order.
 use mathlib.Core.Path.{sym}
-use borrow.Author.Rules.{rules}
 use Rattle.lines.proofs.AccessLaws.{too_short, too_long, past_the_line, not_refused}
 use Rattle.lines.proofs.access.refusal.Goals as goal
 

@@ -1,10 +1,9 @@
 -- `bytes::big_endian` joins bytes that are there.
 use mathlib.Core.Path.{sym, ◌∙◌}
-use native.Mathlib.Omega.{arith}
 use borrow.Author.Tests.{lt-leb}
 use borrow.Author.Rules.{rules}
 use Rattle.lines.specs.Bytes.{number_at}
-use Rattle.lines.proofs.ByteLaws.{inside, number_none, part_length, part_joined}
+use Rattle.lines.proofs.ByteLaws.{inside, number_none, part_joined}
 use Rattle.lines.proofs.bytes.big_endian.Goals as goal
 
 pub returns-then-len-gt8 : goal.returns-then-len-gt8

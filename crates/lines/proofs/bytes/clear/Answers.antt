@@ -1,10 +1,9 @@
 -- `bytes::clear` has cleared i bytes after i turns.
 use mathlib.Core.Path.{◌≡◌, ◌∙◌}
-use Prim.Native.Nat.{◌≤◌, ◌-◌}
 use native.Mathlib.Omega.{arith}
 use lib.ListN.{length}
 use borrow.Author.Rules.{rules}
-use Rattle.bits.proofs.Clearing.{cleared, clear_none, clear_more, clear_all}
+use Rattle.bits.proofs.Clearing.{clear_none, clear_more, clear_all}
 use Rattle.lines.proofs.bytes.clear.Goals as goal
 
 pub loop-i-init : goal.loop-i-init

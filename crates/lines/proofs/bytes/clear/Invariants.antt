@@ -1,10 +1,8 @@
 -- `bytes::clear` has cleared i bytes after i turns.
-use mathlib.Core.Path.{◌≡◌, ◌∙◌}
+use mathlib.Core.Path.{◌≡◌}
 use Prim.Native.Nat.{◌≤◌, ◌-◌}
-use native.Mathlib.Omega.{arith}
 use lib.ListN.{length}
-use borrow.Author.Rules.{rules}
-use Rattle.bits.proofs.Clearing.{cleared, clear_none, clear_more, clear_all}
+use Rattle.bits.proofs.Clearing.{cleared}
 use Rattle.lines.proofs.bytes.clear.Given as goal
 
 abbrev pub invariant-loop-i : goal.invariant-loop-i

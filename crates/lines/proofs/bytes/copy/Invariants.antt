@@ -1,13 +1,8 @@
 -- `bytes::copy` has copied i bytes after i turns.
-use mathlib.Core.Path.{◌≡◌, refl, sym, ◌∙◌}
+use mathlib.Core.Path.{◌≡◌}
 use Prim.Native.Nat.{◌≤◌, ◌-◌}
-use native.Mathlib.Omega.{arith}
-use native.Mathlib.Numerals.{add-one}
 use lib.ListN.{length}
-use lib.Seq.{paste, paste-zero, paste-suc}
-use borrow.Author.Tests.{not-true, not-false}
-use borrow.Author.Rules.{rules}
-use Rattle.lines.proofs.ByteLaws.{inside, copied_is, copied_none}
+use lib.Seq.{paste}
 use Rattle.lines.proofs.bytes.copy.Given as goal
 
 abbrev pub invariant-loop-i : goal.invariant-loop-i

@@ -7,4 +7,4 @@ use Rattle.lines.proofs.bytes.joined.Goals as goal
 
 pub returns-then-bytes-eq8 : goal.returns-then-bytes-eq8
 unfolding each
-returns-then-bytes-eq8 c = c.both.ensures ∙ rw (c.four-low.ensures.0, c.four-high.ensures.0) (of_eight _ _ _ _ _ _ _ _ ∙ ap big_endian (each_is 8 0 _ (search rules)))
+returns-then-bytes-eq8 c = c.both.ensures ∙ rw (c.four-low.ensures.value, c.four-high.ensures.value) (of_eight _ _ _ _ _ _ _ _ ∙ ap big_endian (each_is 8 0 _ (search rules)))

@@ -1,11 +1,8 @@
 -- `bytes::joined_each` joins byte after byte: the number of those passed, and then of those that are left.
-use mathlib.Core.Path.{◌≡◌, ◌∙◌, sym}
+use mathlib.Core.Path.{◌≡◌}
 use Prim.Native.Nat.{◌≤◌, ◌<◌, ◌-◌, ◌^◌}
-use native.Mathlib.Omega.{arith}
-use lib.ListN.{length, get_or, drop}
-use borrow.Author.Rules.{rules}
+use lib.ListN.{length, drop}
 use Rattle.lines.specs.Bytes.{joined, big_endian}
-use Rattle.lines.proofs.ByteLaws.{grown, fits, joined_last, joined_more}
 use Rattle.lines.proofs.bytes.joined_each.Given as goal
 
 abbrev pub invariant-loop-i : goal.invariant-loop-i

@@ -12,6 +12,5 @@ returns-then-len-gt8 c = rw (lt-leb _ _ c.if-len-gt8.true)
 
 pub returns : goal.returns
 returns c =
-    let a = c.before.before.before.before.before.before.before.before.before.args in
-    let e = c.eight-bytes.ensures in
-    c.copy.ensures ∙ tail_copied a.lines.now _ a.at a.len a.value e (search rules)
+    let a = c.args in
+    c.copy.ensures ∙ tail_copied a.lines.now _ a.at a.len a.value c.eight_bytes-bytes.ensures (search rules)
