@@ -1,0 +1,28 @@
+-- `exception::eret` goes by ERL.
+use Rattle.std.proofs.Common.{eq-eqb, ne_eqb}
+use Rattle.exception.specs.Returning.{eret_of}
+use Rattle.exception.proofs.returning.eret.Goals as goal
+
+pub returns-then-field-eq1 : goal.returns-then-field-eq1
+unfolding eret_of
+returns-then-field-eq1 c =
+    rw (
+      c.set_hardware.ensures,
+      c.with_field.ensures,
+      c.read.ensures,
+      ← c.read-status.ensures,
+      ← c.field.ensures,
+      eq-eqb _ _ c.if-field-eq1.true,
+    )
+
+pub returns : goal.returns
+unfolding eret_of
+returns c =
+    rw (
+      c.set_hardware-2.ensures,
+      c.with_field-2.ensures,
+      c.read-2.ensures,
+      ← c.read-status.ensures,
+      ← c.field.ensures,
+      ne_eqb _ _ c.if-field-eq1.false,
+    )

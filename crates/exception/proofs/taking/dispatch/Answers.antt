@@ -1,0 +1,46 @@
+-- `exception::dispatch` does what each step is proved to do.
+use Rattle.exception.specs.Kinds.{vector_kind_of}
+use Rattle.exception.specs.Taking.{taken_of, dispatch_of}
+use Rattle.exception.proofs.Answers.{kind_one}
+use Rattle.exception.proofs.taking.dispatch.Goals as goal
+
+pub returns-then-is_reset : goal.returns-then-is_reset
+unfolding dispatch_of
+returns-then-is_reset c =
+    let kind = kind_one c.vector_kind_of-kind.result (vector_kind_of c.args.exc) c.vector_kind_of-kind.ensures in
+    rw (c.nmi.ensures, ← kind, ← c.is_reset.ensures, c.if-is_reset.true)
+
+pub returns-then-writes_bad_vaddr : goal.returns-then-writes_bad_vaddr
+unfolding dispatch_of taken_of
+returns-then-writes_bad_vaddr c =
+    let kind = kind_one c.vector_kind_of-kind.result (vector_kind_of c.args.exc) c.vector_kind_of-kind.ensures in
+    rw (
+      c.entering.ensures,
+      c.enter.ensures,
+      c.record_address-faulted.ensures,
+      c.record-caused.ensures,
+      c.vector-vector.ensures,
+      c.read.ensures,
+      ← kind,
+      ← c.is_reset.ensures,
+      c.if-is_reset.false,
+      ← c.writes_bad_vaddr.ensures,
+      c.if-writes_bad_vaddr.true,
+    )
+
+pub returns : goal.returns
+unfolding dispatch_of taken_of
+returns c =
+    let kind = kind_one c.vector_kind_of-kind.result (vector_kind_of c.args.exc) c.vector_kind_of-kind.ensures in
+    rw (
+      c.entering-2.ensures,
+      c.enter-2.ensures,
+      c.record-caused.ensures,
+      c.vector-vector.ensures,
+      c.read.ensures,
+      ← kind,
+      ← c.is_reset.ensures,
+      c.if-is_reset.false,
+      ← c.writes_bad_vaddr.ensures,
+      c.if-writes_bad_vaddr.false,
+    )
