@@ -1,7 +1,4 @@
 -- `canonical_page_mask` joins the upper bits of six pairs with themselves moved down one place.
-use native.Mathlib.Nat.{lt_of_le_of_lt}
-use native.Mathlib.Omega.{arith}
-use lib.Bits.{and_le_r}
 use Rattle.tlb.proofs.Sizes.{mask_joined}
 use Rattle.tlb.proofs.moves.canonical_page_mask.Goals as goal
 

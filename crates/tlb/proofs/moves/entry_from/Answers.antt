@@ -1,5 +1,4 @@
 -- `entry_from` reads the fields of the registers.
-use borrow.Author.Rules.{rules}
 use Rattle.tlb.specs.Moves.{entry_of}
 use Rattle.tlb.proofs.moves.entry_from.Goals as goal
 

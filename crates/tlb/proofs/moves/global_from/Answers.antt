@@ -1,6 +1,5 @@
 -- `global_from` is G of both.
 use borrow.Author.Tests.{eq-eqb, ne_eqb}
-use borrow.Author.Rules.{rules}
 use Rattle.tlb.specs.Moves.{global_of}
 use Rattle.tlb.proofs.moves.global_from.Goals as goal
 

@@ -1,6 +1,5 @@
 -- `Entry::answer` is the selected half's.
 use native.Mathlib.Omega.{arith}
-use borrow.Author.Rules.{rules}
 use Rattle.tlb.specs.Entries.{entry_answer}
 use Rattle.tlb.proofs.Sizes.{page_ge}
 use Rattle.tlb.proofs.entries.Entry.answer.Goals as goal

@@ -1,6 +1,5 @@
 -- `Entry::half` goes by the bit just above the offset.
 use borrow.Author.Tests.{eq-eqb, ne_eqb}
-use borrow.Author.Rules.{rules}
 use Rattle.tlb.specs.Entries.{half_of}
 use Rattle.tlb.proofs.entries.Entry.half.Goals as goal
 

@@ -1,5 +1,4 @@
 -- `Entry::matches` compares region, VPN2 and ASID in turn.
-use borrow.Author.Rules.{rules}
 use Rattle.tlb.proofs.Matching.{other_region, other_tag, is_global, by_asid}
 use Rattle.tlb.proofs.entries.Entry.matches.Goals as goal
 

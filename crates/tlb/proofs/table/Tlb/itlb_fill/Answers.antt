@@ -1,6 +1,5 @@
 -- `Tlb::itlb_fill` puts the lowest match into the next slot.
 use borrow.Author.Tests.{lt-ltb, le-ltb}
-use borrow.Author.Rules.{rules}
 use Rattle.tlb.proofs.Looking.{lowest_is}
 use Rattle.tlb.specs.Micro.{filled_of}
 use Rattle.tlb.proofs.table.Tlb.itlb_fill.Goals as goal

@@ -1,5 +1,4 @@
 -- `Tlb::itlb_probe` tries slot 0, then slot 1.
-use borrow.Author.Rules.{rules}
 use Rattle.tlb.specs.Micro.{probed_of}
 use Rattle.tlb.proofs.table.Tlb.itlb_probe.Goals as goal
 

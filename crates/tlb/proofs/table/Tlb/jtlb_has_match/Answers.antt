@@ -1,5 +1,4 @@
 -- `Tlb::jtlb_has_match` says no once shut down.
-use borrow.Author.Rules.{rules}
 use Rattle.tlb.proofs.Looking.{lowest_is}
 use Rattle.tlb.specs.Micro.{has_match_of}
 use Rattle.tlb.proofs.table.Tlb.jtlb_has_match.Goals as goal

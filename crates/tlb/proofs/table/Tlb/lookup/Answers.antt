@@ -1,6 +1,6 @@
 -- `Tlb::lookup` goes by what the scan found.
 use mathlib.Core.Path.{◌≡◌, ap, ◌∙◌}
-use lib.ListN.{length, length-map}
+use lib.ListN.{length}
 use borrow.Author.Rules.{rules}
 use Rattle.tlb.specs.Entries.{told_lookup}
 use Rattle.tlb.proofs.Looking.{is_shut, clash, found, nothing}

@@ -1,5 +1,4 @@
 -- `Tlb::page_size` is half a pair.
-use borrow.Author.Rules.{rules}
 use Rattle.tlb.specs.Entries.{page_size_of}
 use Rattle.tlb.proofs.table.Tlb.page_size.Goals as goal
 

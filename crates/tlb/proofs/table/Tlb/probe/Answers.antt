@@ -1,6 +1,5 @@
 -- `Tlb::probe` puts the lowest match into Index.
 use borrow.Author.Tests.{lt-ltb, le-ltb}
-use borrow.Author.Rules.{rules}
 use Rattle.tlb.specs.Moves.{probe_of}
 use Rattle.tlb.proofs.Looking.{lowest_is}
 use Rattle.tlb.proofs.table.Tlb.probe.Goals as goal

@@ -1,5 +1,4 @@
 -- `Tlb::read_entry` sets four registers.
-use borrow.Author.Rules.{rules}
 use Rattle.tlb.specs.Moves.{read_entry_of}
 use Rattle.tlb.proofs.table.Tlb.read_entry.Goals as goal
 

@@ -1,12 +1,9 @@
 -- `Tlb::scan` finds the lowest match, and whether there is another.
 use mathlib.Core.Path.{◌≡◌, ◌∙◌, sym}
-use mathlib.Core.Logic.{⊎_elim}
-use Prim.Native.Nat.{◌≤◌, ◌-◌}
 use native.Mathlib.Omega.{arith}
-use lib.ListN.{length, length-map, drop}
+use lib.ListN.{length}
 use borrow.Author.Rules.{rules}
-use Rattle.tlb.specs.Table.{matching}
-use Rattle.tlb.proofs.Scanning.{held, turn_hit, turn_miss, second, ended}
+use Rattle.tlb.proofs.Scanning.{turn_hit, turn_miss, second, ended}
 use Rattle.tlb.proofs.table.Tlb.scan.Goals as goal
 use Rattle.tlb.proofs.table.Tlb.scan.Goals.{then-matches+else-found-lt32, else-matches}
 
@@ -24,15 +21,17 @@ loop-i-preserved c =
     let len : length a.self.entries ≡ 32 = search rules in (
       omega arith,
       elim c.if-matches.branch [
-        then-matches+else-found-lt32 w ↦ omega arith |
-        else-matches w ↦ omega arith ],
+        | then-matches+else-found-lt32 w ↦ omega arith
+        | else-matches w ↦ omega arith
+      ],
       elim c.if-matches.branch [
-        then-matches+else-found-lt32 w ↦ rw w.found-is (turn_hit a.self.entries a.vaddr a.asid len c.loop-i.found c.loop-i.i
-          c.loop-i.invariant.2 _ c.loop-i-test.true w.if-found-lt32.false
-          (sym c.matches.ensures ∙ w.if-matches.true)) |
-        else-matches w ↦ rw w.found-is (turn_miss a.self.entries a.vaddr a.asid len c.loop-i.found c.loop-i.i
-          c.loop-i.invariant.2 _ c.loop-i-test.true
-          (sym c.matches.ensures ∙ w.if-matches.false)) ],
+        | then-matches+else-found-lt32 w ↦ rw w.found-is (turn_hit a.self.entries a.vaddr a.asid len c.loop-i.found c.loop-i.i
+            c.loop-i.invariant.2 _ c.loop-i-test.true w.if-found-lt32.false
+            (sym c.matches.ensures ∙ w.if-matches.true))
+        | else-matches w ↦ rw w.found-is (turn_miss a.self.entries a.vaddr a.asid len c.loop-i.found c.loop-i.i
+            c.loop-i.invariant.2 _ c.loop-i-test.true
+            (sym c.matches.ensures ∙ w.if-matches.false))
+      ],
     )
 
 pub returns : goal.returns

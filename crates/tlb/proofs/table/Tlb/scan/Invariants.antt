@@ -1,12 +1,9 @@
 -- `Tlb::scan` finds the lowest match, and whether there is another.
-use mathlib.Core.Path.{◌≡◌, ◌∙◌, sym}
-use mathlib.Core.Logic.{⊎_elim}
+use mathlib.Core.Path.{◌≡◌}
 use Prim.Native.Nat.{◌≤◌, ◌-◌}
-use native.Mathlib.Omega.{arith}
-use lib.ListN.{length, length-map, drop}
-use borrow.Author.Rules.{rules}
+use lib.ListN.{drop}
 use Rattle.tlb.specs.Table.{matching}
-use Rattle.tlb.proofs.Scanning.{held, turn_hit, turn_miss, second, ended}
+use Rattle.tlb.proofs.Scanning.{held}
 use Rattle.tlb.proofs.table.Tlb.scan.Given as goal
 
 -- the matches are the one in hand, if there is one, and then those of the entries from i up

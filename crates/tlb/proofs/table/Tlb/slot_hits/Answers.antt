@@ -1,6 +1,5 @@
 -- `Tlb::slot_hits` looks at the entry that a slot names.
 use borrow.Author.Tests.{lt-ltb, le-ltb}
-use borrow.Author.Rules.{rules}
 use Rattle.tlb.specs.Micro.{slot_hits}
 use Rattle.tlb.proofs.table.Tlb.slot_hits.Goals as goal
 

@@ -1,5 +1,4 @@
 -- `Tlb::write_entry` replaces one place.
-use borrow.Author.Rules.{rules}
 use Rattle.tlb.specs.Moves.{written_of}
 use Rattle.tlb.proofs.table.Tlb.write_entry.Goals as goal
 
