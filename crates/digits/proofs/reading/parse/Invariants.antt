@@ -1,13 +1,9 @@
 -- `reading::parse` is the word's number: that of the digits passed, and then of those that are left. i digits are below 16
 -- to the i, so 16 of them fit.
-use mathlib.Core.Path.{◌≡◌, ◌∙◌, sym}
-use mathlib.Core.Bool.{true}
-use Prim.Native.Nat.{ℕ, ◌≤◌, ◌<◌, ◌-◌, ◌^◌}
-use native.Mathlib.Omega.{arith}
-use lib.ListN.{length, get_or, drop}
-use borrow.Author.Rules.{rules}
-use Rattle.digits.specs.Reading.{is_digit, worth}
-use Rattle.digits.proofs.ReadingLaws.{worth_at_most, of_digit, no_digit, after, empty, long, read, last, more, none, grown, fits}
+use mathlib.Core.Path.{◌≡◌}
+use Prim.Native.Nat.{◌≤◌, ◌<◌, ◌-◌, ◌^◌}
+use lib.ListN.{length, drop}
+use Rattle.digits.proofs.ReadingLaws.{after}
 use Rattle.digits.proofs.reading.parse.Given as goal
 
 abbrev pub invariant-loop-i : goal.invariant-loop-i

@@ -1,5 +1,4 @@
 -- `writing::lowercase` tests as its definition does.
-use borrow.Author.Rules.{rules}
 use borrow.Author.Tests.{lt-ltb, le-ltb}
 use Rattle.digits.specs.Writing.{lowercase_of}
 use Rattle.digits.proofs.writing.lowercase.Goals as goal

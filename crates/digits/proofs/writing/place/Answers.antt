@@ -1,6 +1,6 @@
 -- `writing::place` reads a digit as four bits of the word.
 use mathlib.Core.Path.{ap, sym, ◌∙◌}
-use Prim.Native.Nat.{◌/◌, ◌^◌, ◌<◌}
+use Prim.Native.Nat.{◌/◌, ◌^◌}
 use native.Mathlib.Nat.{mod-lt}
 use native.Mathlib.Omega.{arith}
 use borrow.Author.Rules.{rules}
@@ -8,14 +8,14 @@ use Rattle.digits.specs.Writing.{lowercase_of, place_of}
 use Rattle.digits.proofs.WritingLaws.{field_is, zero_above}
 use Rattle.digits.proofs.writing.place.Goals as goal
 
--- four bits are below 16
-four : (c : tie.After-field) → c.field.result < 16
-four c =
-    let a = c.before.before.args in
-    rw (c.field.ensures, field_is a.value a.k) (mod-lt (a.value / 16 ^ a.k) {m = 16} (omega arith))
-
 pub returns-then-k-gt15 : goal.returns-then-k-gt15
 returns-then-k-gt15 c = sym (zero_above _ _ (search rules) c.if-k-gt15.true)
+
+-- four bits are below 16
+pub lowercase-requires : goal.lowercase-requires
+lowercase-requires c =
+    let a = c.args in
+    rw (c.field.ensures, field_is a.value a.k) (mod-lt (a.value / 16 ^ a.k) {m = 16} (omega arith))
 
 pub returns : goal.returns
 unfolding place_of

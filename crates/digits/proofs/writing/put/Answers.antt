@@ -1,10 +1,8 @@
 -- `writing::put` has written i digits after i turns.
 use mathlib.Core.Path.{◌≡◌, sym, ◌∙◌}
-use Prim.Native.Nat.{◌≤◌, ◌-◌}
 use native.Mathlib.Omega.{arith}
 use native.Mathlib.Numerals.{add-one}
-use lib.ListN.{length}
-use lib.Seq.{paste, paste-zero, paste-suc}
+use lib.Seq.{paste-zero, paste-suc}
 use borrow.Author.Rules.{rules}
 use Rattle.digits.specs.Writing.{digits_of}
 use Rattle.digits.proofs.WritingLaws.{digits_length, digit_at, room, no_room, put_there, put_nowhere}
