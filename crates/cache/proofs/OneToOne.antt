@@ -17,7 +17,7 @@ use Rattle.cache.specs.declared.answers.PlanAnswer.{PlanAnswer}
 use Rattle.cache.specs.declared.answers.PlanAnswer.TheVariants as plan
 use Rattle.cache.specs.declared.answers.WritebackAnswer.{WritebackAnswer}
 use Rattle.cache.specs.declared.answers.WritebackAnswer.TheVariants as writeback
-use Rattle.cache.specs.Answers.{told_done, toldAsked, toldValue, told_plan, toldWriteback}
+use Rattle.cache.specs.Answers.{told_done, told_asked, told_value, told_plan, told_writeback}
 
 abbrev done_at : ℕ → List ℕ → Done
 done_at n [] = done.Refused n
@@ -34,23 +34,23 @@ abbrev asked_at : ℕ → List ℕ → Asked
 asked_at n [] = asked.Refused n
 asked_at n (v ∷ vs) = asked.Is (eqb v 1)
 
-asked_undone : (a : Asked) → asked_at (toldAsked a).number (toldAsked a).values ≡ a
+asked_undone : (a : Asked) → asked_at (told_asked a).number (told_asked a).values ≡ a
 asked_undone (asked.Is b) = ap asked.Is (bit_undone b)
 asked_undone (asked.Refused n) = refl
 
-pub asked_one : (a a' : Asked) → toldAsked a ≡ toldAsked a' → a ≡ a'
-asked_one = one_to_one toldAsked (λ (t : Told). asked_at t.number t.values) asked_undone
+pub asked_one : (a a' : Asked) → told_asked a ≡ told_asked a' → a ≡ a'
+asked_one = one_to_one told_asked (λ (t : Told). asked_at t.number t.values) asked_undone
 
 abbrev value_at : ℕ → List ℕ → Value
 value_at n [] = value.Refused n
 value_at n (v ∷ vs) = value.Of v
 
-value_undone : (v : Value) → value_at (toldValue v).number (toldValue v).values ≡ v
+value_undone : (v : Value) → value_at (told_value v).number (told_value v).values ≡ v
 value_undone (value.Of v) = refl
 value_undone (value.Refused n) = refl
 
-pub value_one : (v v' : Value) → toldValue v ≡ toldValue v' → v ≡ v'
-value_one = one_to_one toldValue (λ (t : Told). value_at t.number t.values) value_undone
+pub value_one : (v v' : Value) → told_value v ≡ told_value v' → v ≡ v'
+value_one = one_to_one told_value (λ (t : Told). value_at t.number t.values) value_undone
 
 abbrev plan_at : ℕ → List ℕ → PlanAnswer
 plan_at n [] = plan.Refused n
@@ -71,10 +71,10 @@ writeback_at n [] = writeback.Refused n
 writeback_at n (k ∷ []) = writeback.None
 writeback_at n (k ∷ a ∷ vs) = writeback.Evict a
 
-writeback_undone : (w : WritebackAnswer) → writeback_at (toldWriteback w).number (toldWriteback w).values ≡ w
+writeback_undone : (w : WritebackAnswer) → writeback_at (told_writeback w).number (told_writeback w).values ≡ w
 writeback_undone writeback.None = refl
 writeback_undone (writeback.Evict a) = refl
 writeback_undone (writeback.Refused n) = refl
 
-pub writeback_one : (w w' : WritebackAnswer) → toldWriteback w ≡ toldWriteback w' → w ≡ w'
-writeback_one = one_to_one toldWriteback (λ (t : Told). writeback_at t.number t.values) writeback_undone
+pub writeback_one : (w w' : WritebackAnswer) → told_writeback w ≡ told_writeback w' → w ≡ w'
+writeback_one = one_to_one told_writeback (λ (t : Told). writeback_at t.number t.values) writeback_undone

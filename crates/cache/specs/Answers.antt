@@ -21,13 +21,13 @@ abbrev pub told_done : Done → Told
 told_done done.Done = nothing
 told_done (done.Refused n) = refused n
 
-abbrev pub toldAsked : Asked → Told
-toldAsked (asked.Is b) = answered (bit b ∷ [])
-toldAsked (asked.Refused n) = refused n
+abbrev pub told_asked : Asked → Told
+told_asked (asked.Is b) = answered (bit b ∷ [])
+told_asked (asked.Refused n) = refused n
 
-abbrev pub toldValue : Value → Told
-toldValue (value.Of v) = answered (v ∷ [])
-toldValue (value.Refused n) = refused n
+abbrev pub told_value : Value → Told
+told_value (value.Of v) = answered (v ∷ [])
+told_value (value.Refused n) = refused n
 
 -- a hit is 0, a fill 1, and an eviction 2 with its address
 abbrev pub told_plan : PlanAnswer → Told
@@ -37,7 +37,7 @@ told_plan (plan.Evict a) = answered (2 ∷ a ∷ [])
 told_plan (plan.Refused n) = refused n
 
 -- an eviction is 1 with its address
-abbrev pub toldWriteback : WritebackAnswer → Told
-toldWriteback writeback.None = nothing
-toldWriteback (writeback.Evict a) = answered (1 ∷ a ∷ [])
-toldWriteback (writeback.Refused n) = refused n
+abbrev pub told_writeback : WritebackAnswer → Told
+told_writeback writeback.None = nothing
+told_writeback (writeback.Evict a) = answered (1 ∷ a ∷ [])
+told_writeback (writeback.Refused n) = refused n

@@ -1,6 +1,6 @@
 // What both caches do alike: over the size of a line, the bytes of all lines and the PState of a valid line.
 ghost use Rattle.std.specs.Prelude.{◌≡◌, ◌*◌, ◌≤◌, length};
-ghost use Rattle.cache.specs.Answers.{told_done, toldAsked, toldValue, toldWriteback};
+ghost use Rattle.cache.specs.Answers.{told_done, told_asked, told_value, told_writeback};
 ghost use Rattle.cache.specs.Both.{sized, both_told, fresh_part, install_bytes, install_tags, hits_told, load_told, resident_told, tags_told, store_tags, evicted_if};
 
 use crate::answers::{Asked, Done, Value, WritebackAnswer};
@@ -54,7 +54,7 @@ pub(crate) fn install(
 }
 
 pub(crate) fn hits(tags: &[u32], addr: u32, size: u32) -> Asked
-    ensures { toldAsked result ≡ hits_told size tags.now addr }
+    ensures { told_asked result ≡ hits_told size tags.now addr }
 {
     if tag_array::is_whole(tags) {
         return Asked::Is(tag_word::is_hit(tag_array::word_for(tags, addr, size), addr));
@@ -64,7 +64,7 @@ pub(crate) fn hits(tags: &[u32], addr: u32, size: u32) -> Asked
 
 // `Index_Load_Tag`.
 pub(crate) fn load_tag(tags: &[u32], addr: u32, size: u32, state: u8) -> Value
-    ensures { toldValue result ≡ load_told size state tags.now addr }
+    ensures { told_value result ≡ load_told size state tags.now addr }
 {
     if tag_array::is_whole(tags) {
         return Value::Of(tag_word::tag_lo(tag_array::word_for(tags, addr, size), state) as u64);
@@ -84,7 +84,7 @@ pub(crate) fn store_tag(tags: &mut [u32], addr: u32, tag_lo: u32, size: u32, sta
 }
 
 pub(crate) fn resident_addr(tags: &[u32], i: usize, start: usize) -> Value
-    ensures { toldValue result ≡ resident_told tags.now i start }
+    ensures { told_value result ≡ resident_told tags.now i start }
 {
     if tag_array::is_whole(tags) {
         return Value::Of(tag_word::resident(tag_array::word_at(tags, i), start) as u64);
@@ -94,7 +94,7 @@ pub(crate) fn resident_addr(tags: &[u32], i: usize, start: usize) -> Value
 
 // What is told of a line that goes to memory, or stays.
 pub(crate) fn evicted(goes: bool, word: u32, start: usize) -> WritebackAnswer
-    ensures { toldWriteback result ≡ evicted_if goes word start }
+    ensures { told_writeback result ≡ evicted_if goes word start }
 {
     if goes {
         return WritebackAnswer::Evict(tag_word::resident(word, start));

@@ -1,7 +1,7 @@
 // The data cache: 8 KiB in 512 lines of 16 bytes, written back.
 ghost use Rattle.std.specs.Prelude.{◌≡◌, ◌+◌, ◌*◌, ◌%◌, ◌≤◌, length, replicate};
 ghost use Rattle.bits.specs.Told.{refused};
-ghost use Rattle.cache.specs.Answers.{told_done, toldAsked, toldValue, told_plan, toldWriteback};
+ghost use Rattle.cache.specs.Answers.{told_done, told_asked, told_value, told_plan, told_writeback};
 ghost use Rattle.cache.specs.Both.{hits_told, load_told, resident_told, tags_told, store_tags, both_told, fresh_part, install_bytes, install_tags, evicted_if, bytes_if};
 ghost use Rattle.cache.specs.Data.{planned_of, evicts_of, plan_told, plan_bytes, read_told, write_told, write_bytes, write_tags, flush_told, flush_bytes, flush_tags, create_told, create_bytes, create_tags};
 
@@ -27,7 +27,7 @@ pub fn new(lines: &mut [u8], tags: &mut [u32]) -> Done
 
 // Does the address hit a valid line?
 pub fn hits(tags: &[u32], addr: u32) -> Asked
-    ensures { toldAsked result ≡ hits_told 16 tags.now addr }
+    ensures { told_asked result ≡ hits_told 16 tags.now addr }
 {
     both::hits(tags, addr, 16)
 }
@@ -63,7 +63,7 @@ pub fn install(lines: &mut [u8], tags: &mut [u32], addr: u32, line: [u8; 16]) ->
 
 // `len` bytes at an address, the highest first. The caller has made the line resident: no hit is tested.
 pub fn read(lines: &[u8], addr: u32, len: usize) -> Value
-    ensures { toldValue result ≡ read_told lines.now addr len }
+    ensures { told_value result ≡ read_told lines.now addr len }
 {
     if lines.len() != BYTES {
         return Value::Refused(1);
@@ -98,7 +98,7 @@ pub fn write(lines: &mut [u8], tags: &mut [u32], addr: u32, len: usize, value: u
 
 // `Index_Load_Tag`, in TagLo's form.
 pub fn load_tag(tags: &[u32], addr: u32) -> Value
-    ensures { toldValue result ≡ load_told 16 3 tags.now addr }
+    ensures { told_value result ≡ load_told 16 3 tags.now addr }
 {
     both::load_tag(tags, addr, 16, VALID_STATE)
 }
@@ -119,7 +119,7 @@ pub fn flush_index(
     invalidate: bool,
     clean: bool,
 ) -> DataWriteback
-    ensures { (toldWriteback result.answer ≡ flush_told lines.now tags.old addr)
+    ensures { (told_writeback result.answer ≡ flush_told lines.now tags.old addr)
         × (result.«data» ≡ flush_bytes lines.now tags.old addr)
         × (tags.new ≡ flush_tags lines.now tags.old addr invalidate clean) }
 {
@@ -135,7 +135,7 @@ pub fn flush_index(
 // `Create_Dirty_Exclusive`: claims the line without filling it, for a caller that is about to write all of it. The bytes that
 // it had stay; what it displaces is told.
 pub fn create_dirty_exclusive(lines: &[u8], tags: &mut [u32], addr: u32) -> DataWriteback
-    ensures { (toldWriteback result.answer ≡ create_told lines.now tags.old addr)
+    ensures { (told_writeback result.answer ≡ create_told lines.now tags.old addr)
         × (result.«data» ≡ create_bytes lines.now tags.old addr)
         × (tags.new ≡ create_tags lines.now tags.old addr) }
 {
@@ -150,7 +150,7 @@ pub fn create_dirty_exclusive(lines: &[u8], tags: &mut [u32], addr: u32) -> Data
 
 // The address that line `index`, modulo 512, came from.
 pub fn resident_addr(tags: &[u32], index: usize) -> Value
-    ensures { toldValue result ≡ resident_told tags.now (index % 512) (index % 512 * 16) }
+    ensures { told_value result ≡ resident_told tags.now (index % 512) (index % 512 * 16) }
 {
     let i = index % 512;
     both::resident_addr(tags, i, i * 16)
@@ -182,7 +182,7 @@ fn evicts(word: u32, addr: u32) -> bool
 // The line that starts there, if it leaves.
 fn writeback(lines: &[u8], word: u32, start: usize, leaves: bool) -> DataWriteback
     requires { start + 16 ≤ length lines.now }
-    ensures { (toldWriteback result.answer ≡ evicted_if leaves word start) × (result.«data» ≡ bytes_if 16 leaves lines.now start) }
+    ensures { (told_writeback result.answer ≡ evicted_if leaves word start) × (result.«data» ≡ bytes_if 16 leaves lines.now start) }
 {
     DataWriteback {
         answer: both::evicted(leaves, word, start),
@@ -191,7 +191,7 @@ fn writeback(lines: &[u8], word: u32, start: usize, leaves: bool) -> DataWriteba
 }
 
 fn refused_writeback() -> DataWriteback
-    ensures { (toldWriteback result.answer ≡ refused 1) × (result.«data» ≡ replicate 16 0) }
+    ensures { (told_writeback result.answer ≡ refused 1) × (result.«data» ≡ replicate 16 0) }
 {
     DataWriteback {
         answer: WritebackAnswer::Refused(1),

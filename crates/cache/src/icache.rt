@@ -1,7 +1,7 @@
 // The instruction cache: 16 KiB in 512 lines of 32 bytes, which the processor does not write.
 ghost use Rattle.std.specs.Prelude.{◌≡◌, ◌+◌, ◌*◌, ◌%◌, ◌≤◌, length, replicate};
 ghost use Rattle.bits.specs.Told.{refused};
-ghost use Rattle.cache.specs.Answers.{told_done, toldAsked, toldValue, toldWriteback};
+ghost use Rattle.cache.specs.Answers.{told_done, told_asked, told_value, told_writeback};
 ghost use Rattle.cache.specs.Both.{hits_told, load_told, resident_told, tags_told, store_tags, both_told, fresh_part, install_bytes, install_tags, evicted_if, bytes_if};
 ghost use Rattle.cache.specs.Instruction.{word_told, invalidate_tags, hit_invalidate_tags, flush_told, flush_bytes};
 
@@ -27,14 +27,14 @@ pub fn new(lines: &mut [u8], tags: &mut [u32]) -> Done
 
 // Does the address hit a valid line?
 pub fn hits(tags: &[u32], addr: u32) -> Asked
-    ensures { toldAsked result ≡ hits_told 32 tags.now addr }
+    ensures { told_asked result ≡ hits_told 32 tags.now addr }
 {
     both::hits(tags, addr, 32)
 }
 
 // The instruction at an address, the highest byte first. The caller has made the line resident: no hit is tested.
 pub fn read_word(lines: &[u8], addr: u32) -> Value
-    ensures { toldValue result ≡ word_told lines.now addr }
+    ensures { told_value result ≡ word_told lines.now addr }
 {
     if lines.len() != BYTES {
         return Value::Refused(1);
@@ -57,7 +57,7 @@ pub fn install(lines: &mut [u8], tags: &mut [u32], addr: u32, line: [u8; 32]) ->
 
 // `Index_Load_Tag`, in TagLo's form.
 pub fn load_tag(tags: &[u32], addr: u32) -> Value
-    ensures { toldValue result ≡ load_told 32 2 tags.now addr }
+    ensures { told_value result ≡ load_told 32 2 tags.now addr }
 {
     both::load_tag(tags, addr, 32, VALID_STATE)
 }
@@ -98,7 +98,7 @@ pub fn hit_invalidate(tags: &mut [u32], addr: u32) -> Done
 
 // `Hit_Write_Back`: a line that holds the address goes to memory, which may have changed under it.
 pub fn flush_hit(lines: &[u8], tags: &[u32], addr: u32) -> InstructionWriteback
-    ensures { (toldWriteback result.answer ≡ flush_told lines.now tags.now addr)
+    ensures { (told_writeback result.answer ≡ flush_told lines.now tags.now addr)
         × (result.«data» ≡ flush_bytes lines.now tags.now addr) }
 {
     if both::are_sized(lines, tags, BYTES) {
@@ -111,7 +111,7 @@ pub fn flush_hit(lines: &[u8], tags: &[u32], addr: u32) -> InstructionWriteback
 
 // The address that line `index`, modulo 512, came from.
 pub fn resident_addr(tags: &[u32], index: usize) -> Value
-    ensures { toldValue result ≡ resident_told tags.now (index % 512) (index % 512 * 32) }
+    ensures { told_value result ≡ resident_told tags.now (index % 512) (index % 512 * 32) }
 {
     let i = index % 512;
     both::resident_addr(tags, i, i * 32)
@@ -120,7 +120,7 @@ pub fn resident_addr(tags: &[u32], index: usize) -> Value
 // The line that starts there, if it goes.
 fn writeback(lines: &[u8], word: u32, start: usize, goes: bool) -> InstructionWriteback
     requires { start + 32 ≤ length lines.now }
-    ensures { (toldWriteback result.answer ≡ evicted_if goes word start) × (result.«data» ≡ bytes_if 32 goes lines.now start) }
+    ensures { (told_writeback result.answer ≡ evicted_if goes word start) × (result.«data» ≡ bytes_if 32 goes lines.now start) }
 {
     InstructionWriteback {
         answer: both::evicted(goes, word, start),
@@ -129,7 +129,7 @@ fn writeback(lines: &[u8], word: u32, start: usize, goes: bool) -> InstructionWr
 }
 
 fn refused_writeback() -> InstructionWriteback
-    ensures { (toldWriteback result.answer ≡ refused 1) × (result.«data» ≡ replicate 32 0) }
+    ensures { (told_writeback result.answer ≡ refused 1) × (result.«data» ≡ replicate 32 0) }
 {
     InstructionWriteback {
         answer: WritebackAnswer::Refused(1),

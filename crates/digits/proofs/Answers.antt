@@ -8,26 +8,26 @@ use Rattle.digits.specs.declared.reading.DigitAnswer.{DigitAnswer}
 use Rattle.digits.specs.declared.reading.DigitAnswer.TheVariants.{Of, None}
 use Rattle.digits.specs.declared.reading.Number.{Number}
 use Rattle.digits.specs.declared.reading.Number.TheVariants.{Value, Bad}
-use Rattle.digits.specs.Answers.{toldDigit, told_number}
+use Rattle.digits.specs.Answers.{told_digit, told_number}
 
-abbrev digitAt : List ℕ → DigitAnswer
-digitAt [] = None
-digitAt (v ∷ vs) = Of v
+abbrev digit_at : List ℕ → DigitAnswer
+digit_at [] = None
+digit_at (v ∷ vs) = Of v
 
-digit-undone : (a : DigitAnswer) → digitAt (toldDigit a).values ≡ a
-digit-undone (Of v) = refl
-digit-undone None = refl
+digit_undone : (a : DigitAnswer) → digit_at (told_digit a).values ≡ a
+digit_undone (Of v) = refl
+digit_undone None = refl
 
-pub digit-one : (a a' : DigitAnswer) → toldDigit a ≡ toldDigit a' → a ≡ a'
-digit-one = one_to_one toldDigit (λ (t : Told). digitAt t.values) digit-undone
+pub digit_one : (a a' : DigitAnswer) → told_digit a ≡ told_digit a' → a ≡ a'
+digit_one = one_to_one told_digit (λ (t : Told). digit_at t.values) digit_undone
 
 abbrev number_at : List ℕ → Number
 number_at [] = Bad
 number_at (v ∷ vs) = Value v
 
-number-undone : (a : Number) → number_at (told_number a).values ≡ a
-number-undone (Value v) = refl
-number-undone Bad = refl
+number_undone : (a : Number) → number_at (told_number a).values ≡ a
+number_undone (Value v) = refl
+number_undone Bad = refl
 
-pub number-one : (a a' : Number) → told_number a ≡ told_number a' → a ≡ a'
-number-one = one_to_one told_number (λ (t : Told). number_at t.values) number-undone
+pub number_one : (a a' : Number) → told_number a ≡ told_number a' → a ≡ a'
+number_one = one_to_one told_number (λ (t : Told). number_at t.values) number_undone

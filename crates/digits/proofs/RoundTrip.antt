@@ -18,7 +18,7 @@ use Rattle.digits.specs.declared.reading.Number.{Number}
 use Rattle.digits.specs.declared.reading.Number.TheVariants.{Value}
 use Rattle.digits.specs.Reading.{within, is_digit, worth, all_digits, value_of, number_told}
 use Rattle.digits.specs.Writing.{lowercase_of, is_lowercase, place_of, digits_of, has_room, put_of}
-use Rattle.digits.proofs.Answers.{number-one}
+use Rattle.digits.proofs.Answers.{number_one}
 use Rattle.digits.proofs.ReadingLaws.{inside}
 use Rattle.digits.proofs.WritingLaws.{digits_length, digit_at, put_there}
 use Rattle.digits.specs.contracts.reading.parse as parse
@@ -111,4 +111,4 @@ module _ (κs : Lifetimes.Lfts 1) (a : World.ArgsD put.signature κs) where
   parse_of_put l m small s p κs' b word n s' q =
       let room : place + width ≤ length a.0.now = leb-true _ _ (sym p.0) in
       let read : b.0.now ≡ digits_of width value = word ∙ rw p.1 (written a.0.now place width value room) in
-      number-one n (Value value) (q ∙ ap number_told read ∙ number_back width value l m small)
+      number_one n (Value value) (q ∙ ap number_told read ∙ number_back width value l m small)

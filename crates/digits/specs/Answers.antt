@@ -7,9 +7,9 @@ use Rattle.digits.specs.declared.reading.Number.{Number}
 use Rattle.digits.specs.declared.reading.Number.TheVariants.{Value, Bad}
 
 -- no digit, or no number, is an answer without a value: the scope numbers no refusal here
-abbrev pub toldDigit : DigitAnswer → Told
-toldDigit (Of v) = answered (v ∷ [])
-toldDigit None = answered []
+abbrev pub told_digit : DigitAnswer → Told
+told_digit (Of v) = answered (v ∷ [])
+told_digit None = answered []
 
 abbrev pub told_number : Number → Told
 told_number (Value v) = answered (v ∷ [])

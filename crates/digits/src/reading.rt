@@ -1,7 +1,7 @@
 // Digits that are read.
 ghost use Rattle.std.specs.Prelude.{◌≡◌};
 ghost use Rattle.digits.specs.Reading.{within, digit_told, number_told};
-ghost use Rattle.digits.specs.Answers.{toldDigit, told_number};
+ghost use Rattle.digits.specs.Answers.{told_digit, told_number};
 
 // A digit's value, if the byte is one.
 #[derive(Clone, Copy)]
@@ -19,7 +19,7 @@ pub enum Number {
 
 // A digit's value, in either letter case.
 pub fn digit(b: u8) -> DigitAnswer
-    ensures { toldDigit result ≡ digit_told b }
+    ensures { told_digit result ≡ digit_told b }
 {
     if is_within(b'0', b'9', b) {
         return DigitAnswer::Of(b - b'0');
