@@ -1,5 +1,4 @@
 -- `addr::is_kernel` tests EXL, then ERL, and then KSU.
-use borrow.Author.Rules.{rules}
 use borrow.Author.Tests.{eq-eqb, ne_eqb}
 use Rattle.addr.specs.Access.{is_kernel_of}
 use Rattle.addr.proofs.access.is_kernel.Goals as goal
