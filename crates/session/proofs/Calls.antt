@@ -30,6 +30,8 @@ ran s rs = record { session = left s rs; answers = map answer_of rs }
 pub calls_are_the_run : (os : List Op) (s : Session) (rs : List Stepped) → Called os s rs → ran s rs ≡ run os s
 unfolding run_by Called left
 calls_are_the_run [] s [] c = refl
+calls_are_the_run [] s (r ∷ rs) c = elim c [ ]
+calls_are_the_run (o ∷ os) s [] c = elim c [ ]
 calls_are_the_run (o ∷ os) s (r ∷ rs) (fits, rest) =
     ap (preceded (answer_of r)) (calls_are_the_run os r.session rs rest)
     ∙ ap (λ (p : Outcome). preceded p.answer (run os p.session)) fits
