@@ -58,6 +58,8 @@ pub calls_are_the_run : (os : List Op) (w : Words) → Whole w → (rs : List Le
     → record { session = session_in (left w rs); answers = answers rs } ≡ run os (session_in w)
 unfolding run_by Called left answers
 calls_are_the_run [] w h [] c = refl
+calls_are_the_run [] w h (r ∷ rs) c = elim c [ ]
+calls_are_the_run (o ∷ os) w h [] c = elim c [ ]
 calls_are_the_run (o ∷ os) w h (r ∷ rs) (call, rest) =
     let s = call_steps h call in
     ap (preceded r.answer) (calls_are_the_run os r.words s.whole rs rest)
@@ -66,6 +68,8 @@ calls_are_the_run (o ∷ os) w h (r ∷ rs) (call, rest) =
 pub calls_exact : (os : List Op) (w : Words) → Whole w → Exact w → (rs : List Left) → Called os w rs → Exact (left w rs)
 unfolding Called left
 calls_exact [] w h x [] c = x
+calls_exact [] w h x (r ∷ rs) c = elim c [ ]
+calls_exact (o ∷ os) w h x [] c = elim c [ ]
 calls_exact (o ∷ os) w h x (r ∷ rs) (call, rest) =
     let s = call_steps h call in
     calls_exact os r.words s.whole (s.exact x) rs rest

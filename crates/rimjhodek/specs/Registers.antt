@@ -1,5 +1,5 @@
 -- The register record as 38 words: 32 registers, now, the epoch's value and tick, the last-asked Count, EC, the latch.
-use Rattle.std.specs.Prelude.{ℕ, suc, ◌+◌, ◌*◌, ◌/◌, ◌%◌, ◌^◌, Bool, cond, ◌&&◌, List, [], ◌∷◌, ◌++◌, take, set, replicate, ◌==◌, nat_le, slice_index, slice_set}
+use Rattle.std.specs.Prelude.{ℕ, suc, ◌+◌, ◌*◌, ◌/◌, ◌%◌, ◌^◌, Bool, cond, ◌&&◌, List, [], ◌∷◌, ◌++◌, take, replicate, ◌==◌, nat_le, slice_index, slice_set}
 use Rattle.bits.specs.Extension.{low32_of}
 use Rattle.bits.specs.Told.{Told}
 use Rattle.cop0.specs.declared.registers.Cop0.{Cop0}

@@ -1,0 +1,47 @@
+-- NMI by itself; all others step by step, with and without an address.
+use Rattle.std.proofs.Common.{sym, refl, ◌∙◌, rules}
+use Rattle.cop0.specs.Registers.{among}
+use Rattle.exception.specs.Kinds.{vector_kind_of}
+use Rattle.exception.specs.Taking.{dispatch_of}
+use Rattle.rimjhodek.specs.Registers.{is_special}
+use Rattle.rimjhodek.proofs.Taking.{is_reset_lem, not_reset, told, faulted, unfaulted}
+use Rattle.rimjhodek.proofs.exceptions.dispatch.Goals as goal
+
+pub returns-then-kind_number-eq3 : goal.returns-then-kind_number-eq3
+unfolding dispatch_of
+returns-then-kind_number-eq3 c =
+    let a = c.args in
+    let kind = c.vector_kind_of-kind.result in
+    let reset = is_reset_lem _ kind (vector_kind_of a.exc) c.kind_number.ensures c.vector_kind_of-kind.ensures c.if-kind_number-eq3.true in
+    rw reset c.rimjhodek_nmi.ensures
+
+pub read-requires : goal.read-requires
+unfolding is_special among
+read-requires c = (search rules, refl)
+
+pub returns-then-writes_bad_vaddr : goal.returns-then-writes_bad_vaddr
+returns-then-writes_bad_vaddr c =
+    let a = c.args in
+    let ws = a.cop0.now in
+    let kind = c.vector_kind_of-kind.result in
+    let proper = not_reset _ kind (vector_kind_of a.exc) c.kind_number.ensures c.vector_kind_of-kind.ensures c.if-kind_number-eq3.false in (
+      rw (c.taking.ensures, c.vector-vector.ensures)
+          (told ws a.exc a.pc a.in_delay_slot a.bad_vaddr proper
+          _ kind c.read.ensures c.vector_kind_of-kind.ensures),
+      faulted ws a.exc a.pc a.in_delay_slot a.bad_vaddr proper c.sized.ensures _ c.record.ensures
+          (sym c.writes_bad_vaddr.ensures ∙ c.if-writes_bad_vaddr.true)
+          _ _ c.record_address.ensures c.enter.ensures,
+    )
+
+pub returns : goal.returns
+returns c =
+    let a = c.args in
+    let ws = a.cop0.now in
+    let kind = c.vector_kind_of-kind.result in
+    let proper = not_reset _ kind (vector_kind_of a.exc) c.kind_number.ensures c.vector_kind_of-kind.ensures c.if-kind_number-eq3.false in (
+      rw (c.taking-2.ensures, c.vector-vector.ensures)
+          (told ws a.exc a.pc a.in_delay_slot a.bad_vaddr proper
+          _ kind c.read.ensures c.vector_kind_of-kind.ensures),
+      unfaulted ws a.exc a.pc a.in_delay_slot a.bad_vaddr proper c.sized.ensures _ c.record.ensures
+          (sym c.writes_bad_vaddr.ensures ∙ c.if-writes_bad_vaddr.false) _ c.enter-2.ensures,
+    )
