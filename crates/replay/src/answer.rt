@@ -2,32 +2,33 @@
 ghost use Rattle.std.specs.Prelude.{◌≤◌, length};
 
 use crate::line::{Stop, find};
-use crate::output::{at_most, put};
+use crate::output::{Held, at_most, put};
 use crate::request::Fault;
 use crate::told::Told;
 
 // An operation's answer.
-pub fn write(out: &mut [u8], used: usize, told: Told) -> usize {
+pub fn write(rt: &HostRuntime, out: &mut [u8], used: usize, told: Told) -> Held {
     let values = told.values;
-    write_row(out, used, told.row, &values)
+    write_row(rt, out, used, told.row, &values)
 }
 
 // What is wrong with a line: the last line of a run.
-pub fn write_fault(out: &mut [u8], used: usize, line: u64, fault: Fault) -> usize {
-    let used = put(out, used, b"line ");
-    let used = decimal(out, used, line);
+pub fn write_fault(rt: &HostRuntime, out: &mut [u8], used: usize, line: u64, fault: Fault) -> Held {
+    let used = put(rt, out, used, b"line ")?;
+    let used = decimal(rt, out, used, line)?;
     match fault {
-        Fault::UnknownOperation => put(out, used, b": unknown operation\n"),
-        Fault::OperandCount => put(out, used, b": wrong number of operands\n"),
-        Fault::BadNumber => put(out, used, b": bad number\n"),
-        Fault::OutOfRange => put(out, used, b": out of range\n"),
+        Fault::UnknownOperation => put(rt, out, used, b": unknown operation\n"),
+        Fault::OperandCount => put(rt, out, used, b": wrong number of operands\n"),
+        Fault::BadNumber => put(rt, out, used, b": bad number\n"),
+        Fault::OutOfRange => put(rt, out, used, b": out of range\n"),
     }
 }
 
 // A row of the answers' table, with its values. Rows stand in any order: each is its own letter, a word, and a letter for each
 // value: `n` is a number of 16 digits, `f` a flag, `d` a decimal number, and `j` 16 digits that are joined to those before.
-pub fn write_row(out: &mut [u8], used: usize, row: u8, values: &[u64]) -> usize {
+pub fn write_row(rt: &HostRuntime, out: &mut [u8], used: usize, row: u8, values: &[u64]) -> Held {
     filled(
+        rt,
         out,
         used,
         b"a ok
@@ -62,11 +63,18 @@ z unplayed
     )
 }
 
-fn filled(out: &mut [u8], used: usize, table: &[u8], row: u8, values: &[u64]) -> usize {
+fn filled(
+    rt: &HostRuntime,
+    out: &mut [u8],
+    used: usize,
+    table: &[u8],
+    row: u8,
+    values: &[u64],
+) -> Held {
     let at = start_of(table, row);
     let end = find(table, at, Stop::LineEnd);
-    let used = written(out, used, &table[at..end], values);
-    put(out, used, b"\n")
+    let used = written(rt, out, used, &table[at..end], values)?;
+    put(rt, out, used, b"\n")
 }
 
 // Where a row starts, or the end of a table that has no such row.
@@ -87,45 +95,45 @@ fn start_of(table: &[u8], row: u8) -> usize
 const WORD: usize = 2;
 
 // A row's word, and the values of its letters.
-fn written(out: &mut [u8], used: usize, row: &[u8], values: &[u64]) -> usize {
+fn written(rt: &HostRuntime, out: &mut [u8], used: usize, row: &[u8], values: &[u64]) -> Held {
     let from = at_most(WORD, row.len());
     let end = find(row, from, Stop::Blank);
-    let mut held = put(out, used, &row[from..end]);
+    let mut held = put(rt, out, used, &row[from..end])?;
     let mut at = end;
     let mut i = 0;
     while i < values.len() {
         at += 1;
         if row.len() <= at {
-            return held;
+            return Ok(held);
         }
-        held = of_letter(out, held, row[at], values[i]);
+        held = of_letter(rt, out, held, row[at], values[i])?;
         i += 1;
     }
-    held
+    Ok(held)
 }
 
-fn of_letter(out: &mut [u8], used: usize, letter: u8, value: u64) -> usize {
+fn of_letter(rt: &HostRuntime, out: &mut [u8], used: usize, letter: u8, value: u64) -> Held {
     if letter == b'j' {
-        return hexadecimal(out, used, value, 16);
+        return hexadecimal(rt, out, used, value, 16);
     }
-    let used = put(out, used, b" ");
+    let used = put(rt, out, used, b" ")?;
     match letter {
-        b'd' => decimal(out, used, value),
-        b'f' => hexadecimal(out, used, value, 1),
-        _ => hexadecimal(out, used, value, 16),
+        b'd' => decimal(rt, out, used, value),
+        b'f' => hexadecimal(rt, out, used, value, 1),
+        _ => hexadecimal(rt, out, used, value, 16),
     }
 }
 
-fn hexadecimal(out: &mut [u8], used: usize, value: u64, width: usize) -> usize
+fn hexadecimal(rt: &HostRuntime, out: &mut [u8], used: usize, value: u64, width: usize) -> Held
     requires { width ≤ 16 }
 {
     let mut text = [0u8; 16];
     digits::put(&mut text, 0, width, value);
-    put(out, used, &text[..width])
+    put(rt, out, used, &text[..width])
 }
 
-fn decimal(out: &mut [u8], used: usize, value: u64) -> usize {
+fn decimal(rt: &HostRuntime, out: &mut [u8], used: usize, value: u64) -> Held {
     let mut digits = [0u8; 20];
     let n = io::decimal(value, &mut digits);
-    put(out, used, &digits[..n])
+    put(rt, out, used, &digits[..n])
 }

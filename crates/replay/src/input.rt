@@ -1,5 +1,9 @@
 // Reading a trace whole.
-ghost use Rattle.std.specs.Prelude.{◌≤◌, ◌≡◌, length};
+ghost use Rattle.std.specs.Prelude.{◌≤◌, ◌≡◌, IfOk, length};
+
+use std::fs::File;
+use std::io;
+use std::io::{ErrorKind, Read};
 
 // The longest trace, in bytes.
 const LIMIT: usize = 1048576;
@@ -12,49 +16,31 @@ pub fn room() -> [u8; LIMIT + 1]
     [0; LIMIT + 1]
 }
 
-// Whether all was read, and how many bytes that is.
-#[derive(Drop)]
-pub struct Input {
-    pub ok: bool,
-    pub count: usize,
-}
-
-// The file whose name is the first `n` bytes of `room`, read over the name.
-pub fn read_file(room: &mut [u8], n: usize) -> Input
+// The file whose name is the first `n` bytes of `room`, read over the name, and how many bytes that is. A name that is
+// not UTF-8 can't be opened.
+pub fn read_file(rt: &HostRuntime, room: &mut [u8], n: usize) -> io::Result<usize>
     requires { n ≤ length room.old }
-    ensures { result.count ≤ length room.new }
+    ensures { IfOk result (λ count. count ≤ length room.new) }
 {
-    let fd = os::open_read(&room[0..n]);
-    if fd < 0 {
-        return Input {
-            ok: false,
-            count: 0,
-        };
-    }
-    let got = read_all(fd, room);
-    libc::close(fd);
-    got
+    let Ok(name) = str::from_utf8(&room[0..n]) else {
+        return Err(io::Error::from(ErrorKind::InvalidFilename));
+    };
+    let mut file = File::open(rt, name)?;
+    read_all(&mut file, room)
 }
 
-// Reads until the input ends or `room` is full. A read that fails is no end: a directory can be opened and not read.
-pub fn read_all(fd: i32, room: &mut [u8]) -> Input
-    ensures { result.count ≤ length room.new }
+// Reads until the input ends or `room` is full, and answers how many bytes that is. A read that fails is no end: a
+// directory can be opened and not read.
+pub fn read_all(from: &mut impl Read, room: &mut [u8]) -> io::Result<usize>
+    ensures { IfOk result (λ count. count ≤ length room.new) }
 {
     let mut count = 0;
     while count < room.len() {
-        let part = &mut room[count..];
-        let got = libc::read(fd, part);
-        if got < 0 {
-            return Input {
-                ok: false,
-                count: 0,
-            };
-        }
-        let more = io::count(got, part);
+        let more = from.read(&mut room[count..])?;
         if more == 0 {
-            return Input { ok: true, count };
+            return Ok(count);
         }
         count += more;
     }
-    Input { ok: true, count }
+    Ok(count)
 }

@@ -29,54 +29,61 @@ mod step;
 mod told;
 mod words;
 
-use libc::STDIN_FILENO;
+use std::env::{Env, FillError};
+use std::io;
 
-// The two large buffers, for a trace and for the text to write, stand here alone and are lent to everything else.
-fn main() {
+// The two large buffers, for a trace and for the text to write, stand here alone and are lent to everything else. The
+// first word of the command line is the program's own name.
+fn main(rt: HostRuntime) -> io::Result<()> {
     let mut bytes = input::room();
-    let mut text = io::large_buffer();
+    let mut text = [0u8; 65536];
     let room: &mut [u8] = &mut bytes;
     let out: &mut [u8] = &mut text;
-    let words = os::arg_count();
-    if words < 2 {
-        play_input(room, out);
-    } else {
-        play_files(words, room, out);
+    if let Err(FillError::NotPresent) = rt.arg(1, room) {
+        return play_input(&rt, room, out);
     }
+    play_files(&rt, room, out)
 }
 
 // Standard input, which has no name to write first.
-fn play_input(room: &mut [u8], out: &mut [u8]) {
-    let got = input::read_all(STDIN_FILENO, room);
-    if !got.ok {
-        os::fail(b"standard input");
-        return;
-    }
-    let used = run::play(room, got.count, out, 0);
-    output::flush(out, used);
+fn play_input(rt: &HostRuntime, room: &mut [u8], out: &mut [u8]) -> io::Result<()> {
+    let count = input::read_all(&mut rt.stdin(), room)?;
+    let used = run::play(rt, room, count, out, 0)?;
+    output::flush(rt, out, used)
 }
 
-// Each file in turn. The first word of the command line is the program's own name.
-fn play_files(words: usize, room: &mut [u8], out: &mut [u8]) {
+// Each file in turn, up to the last word.
+fn play_files(rt: &HostRuntime, room: &mut [u8], out: &mut [u8]) -> io::Result<()> {
     let mut used = 0;
-    let mut i = 1;
-    while i < words {
-        used = play_file(i, room, out, used);
-        i += 1;
+    for i in 1..usize::MAX {
+        match rt.arg(i, room) {
+            Ok(n) => {
+                used = play_file(rt, n, room, out, used)?;
+            }
+            // No file has a name that is longer than the room.
+            Err(FillError::TooLong) => {
+                used = play_file(rt, 0, room, out, used)?;
+            }
+            Err(FillError::NotPresent) => break,
+        }
     }
-    output::flush(out, used);
+    output::flush(rt, out, used)
 }
 
-// The line `trace NAME`, and the file's answers. The name stands in `room` until the file is read over it, so it is
-// written first, and its line is ended once it is known whether the file can be read.
-fn play_file(i: usize, room: &mut [u8], out: &mut [u8], used: usize) -> usize {
-    let n = os::arg(i, room);
-    let used = output::put(out, used, b"trace ");
-    let used = output::put(out, used, &room[0..n]);
-    let got = input::read_file(room, n);
-    if !got.ok {
-        return output::put(out, used, b": cannot be read\n");
-    }
-    let used = output::put(out, used, b"\n");
-    run::play(room, got.count, out, used)
+// The line `trace NAME`, and the file's answers. The name is the first `n` bytes of `room` until the file is read over
+// it, so it is written first, and its line is ended once it is known whether the file can be read.
+fn play_file(
+    rt: &HostRuntime,
+    n: usize,
+    room: &mut [u8],
+    out: &mut [u8],
+    used: usize,
+) -> output::Held {
+    let used = output::put(rt, out, used, b"trace ")?;
+    let used = output::put(rt, out, used, &room[0..n])?;
+    let Ok(count) = input::read_file(rt, room, n) else {
+        return output::put(rt, out, used, b": cannot be read\n");
+    };
+    let used = output::put(rt, out, used, b"\n")?;
+    run::play(rt, room, count, out, used)
 }

@@ -5,29 +5,30 @@
 ghost use Rattle.std.specs.Prelude.{◌+◌, ◌≤◌, ◌≡◌, length};
 ghost use Rattle.std.proofs.Math.Seq.{paste};
 
-use libc::STDOUT_FILENO;
+use std::io;
+
+// How many bytes are held then, where none had to be written or they could be.
+pub type Held = io::Result<usize>;
 
 // Adds `bytes`. Where they find no room, what is held is written first, and so are bytes that no empty buffer has room
 // for.
-pub fn put(out: &mut [u8], used: usize, bytes: &[u8]) -> usize {
+pub fn put(rt: &HostRuntime, out: &mut [u8], used: usize, bytes: &[u8]) -> Held {
     let held = at_most(used, out.len());
     if bytes.len() <= out.len() - held {
-        return copy(out, held, bytes);
+        return Ok(copy(out, held, bytes));
     }
-    flush(out, held);
+    flush(rt, out, held)?;
     if bytes.len() <= out.len() {
-        return copy(out, 0, bytes);
+        return Ok(copy(out, 0, bytes));
     }
-    flush(bytes, bytes.len());
-    0
+    flush(rt, bytes, bytes.len())?;
+    Ok(0)
 }
 
-// Writes what is held. A program has no exit status, so a failure is told on standard error.
-pub fn flush(out: &[u8], used: usize) {
+// Writes what is held. A failure ends the program, which tells it on standard error.
+pub fn flush(rt: &HostRuntime, out: &[u8], used: usize) -> io::Result<()> {
     let held = at_most(used, out.len());
-    if !io::write_all(STDOUT_FILENO, &out[0..held]) {
-        os::fail(b"standard output");
-    }
+    rt.write_all(&out[0..held])
 }
 
 pub(crate) fn at_most(n: usize, most: usize) -> usize

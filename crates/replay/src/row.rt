@@ -1,7 +1,6 @@
 // A row of the operations' table: two letters for who plays it, a name, and then a letter for each operand.
 use crate::line::{Stop, find};
 use crate::operand::MOST;
-use check::same;
 
 // Who plays a row's operation, and how many operands it has, with the greatest number that each may be.
 #[derive(Drop)]
@@ -56,7 +55,7 @@ fn is_named(row: &[u8], name: &[u8]) -> bool {
         return false;
     }
     let end = find(row, NAME, Stop::Blank);
-    same(&row[NAME..end], name)
+    &row[NAME..end] == name
 }
 
 // A row's two letters, and those of its operands.
