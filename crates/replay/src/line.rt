@@ -3,7 +3,7 @@ ghost use Rattle.std.specs.Prelude.{◌+◌, ◌-◌, ◌≤◌, ◌≡◌, leng
 ghost use Rattle.replay.specs.Line.{blank_of, stops_of, passed};
 
 // What a scan stops at.
-#[derive(Drop)]
+#[derive(Clone, Copy)]
 pub enum Stop {
     LineEnd,
     Blank,
