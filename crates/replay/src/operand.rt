@@ -9,7 +9,7 @@ use digits::Number;
 pub const MOST: usize = 6;
 
 // How many operands there are, where `MOST + 1` is any number of too many; whether all are numbers; and those numbers.
-#[derive(Drop)]
+#[derive(Clone, Copy)]
 pub(crate) struct Operands {
     pub count: usize,
     pub good: bool,

@@ -9,7 +9,7 @@ use addr::{Access, AccessAnswer, Mode, Segment};
 use cop0::{Cop0, Cop0Op, FromRs};
 
 // The answer, and the registers after it.
-#[derive(Drop)]
+#[derive(Clone, Copy)]
 pub struct Played {
     pub told: Told,
     pub cop0: Cop0,

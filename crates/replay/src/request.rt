@@ -9,7 +9,7 @@ use crate::operations::row_of;
 use crate::row::Row;
 
 // What is wrong with a line, in the order in which it is checked.
-#[derive(Drop)]
+#[derive(Clone, Copy)]
 pub enum Fault {
     UnknownOperation,
     OperandCount,
@@ -17,7 +17,7 @@ pub enum Fault {
     OutOfRange,
 }
 
-#[derive(Drop)]
+#[derive(Clone, Copy)]
 pub enum Asked {
     Nothing,
     Play,
@@ -25,7 +25,7 @@ pub enum Asked {
 }
 
 // An operation by the part that plays it and the arm there, with its operands.
-#[derive(Drop)]
+#[derive(Clone, Copy)]
 pub struct Call {
     pub part: u8,
     pub arm: u8,
@@ -33,7 +33,7 @@ pub struct Call {
 }
 
 // What is asked, and the call, which means something where it is to be played.
-#[derive(Drop)]
+#[derive(Clone, Copy)]
 pub struct Request {
     pub asked: Asked,
     pub call: Call,

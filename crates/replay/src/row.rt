@@ -3,7 +3,7 @@ use crate::line::{Stop, find};
 use crate::operand::MOST;
 
 // Who plays a row's operation, and how many operands it has, with the greatest number that each may be.
-#[derive(Drop)]
+#[derive(Clone, Copy)]
 pub(crate) struct Row {
     pub known: bool,
     pub part: u8,

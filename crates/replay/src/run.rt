@@ -10,7 +10,7 @@ use session::Session;
 use std::io;
 
 // A run between two lines: the session, how much of the output buffer is used, and whether a fault ended the run.
-#[derive(Drop)]
+#[derive(Clone, Copy)]
 struct Run {
     session: Session,
     used: usize,

@@ -33,7 +33,7 @@ fn played(stepped: Stepped, i: u64) -> Played {
 }
 
 // The operation of an arm, if there is such an arm.
-#[derive(Drop)]
+#[derive(Clone, Copy)]
 enum Chosen {
     Op(Op),
     None,

@@ -5,7 +5,7 @@ use crate::{operations, register_step, session_step};
 use session::Session;
 
 // The answer, and the session after it.
-#[derive(Drop)]
+#[derive(Clone, Copy)]
 pub struct Played {
     pub told: Told,
     pub session: Session,

@@ -3,7 +3,7 @@
 // The most numbers that an answer has.
 pub const MOST: usize = 14;
 
-#[derive(Drop)]
+#[derive(Clone, Copy)]
 pub struct Told {
     pub row: u8,
     pub values: [u64; MOST],
