@@ -32,17 +32,28 @@ mod words;
 use std::env::{Env, FillError};
 use std::io;
 
-// The two large buffers, for a trace and for the text to write, stand here alone and are lent to everything else. The
-// first word of the command line is the program's own name.
+// The two large buffers, for a trace and for the text to write, stand here alone and are lent to everything else.
 fn main(rt: HostRuntime) -> io::Result<()> {
     let mut bytes = input::room();
     let mut text = [0u8; 65536];
     let room: &mut [u8] = &mut bytes;
     let out: &mut [u8] = &mut text;
-    if let Err(FillError::NotPresent) = rt.arg(1, room) {
-        return play_input(&rt, room, out);
+    let words = count_words(&rt, room);
+    if words < 2 {
+        play_input(&rt, room, out)
+    } else {
+        play_files(&rt, words, room, out)
     }
-    play_files(&rt, room, out)
+}
+
+// How many words the command line has. Each is read into `room`, of which nothing is left to use.
+fn count_words(rt: &HostRuntime, room: &mut [u8]) -> usize {
+    for i in 0..usize::MAX {
+        if let Err(FillError::NotPresent) = rt.arg(i, room) {
+            return i;
+        }
+    }
+    usize::MAX
 }
 
 // Standard input, which has no name to write first.
@@ -52,33 +63,27 @@ fn play_input(rt: &HostRuntime, room: &mut [u8], out: &mut [u8]) -> io::Result<(
     output::flush(rt, out, used)
 }
 
-// Each file in turn, up to the last word.
-fn play_files(rt: &HostRuntime, room: &mut [u8], out: &mut [u8]) -> io::Result<()> {
+// Each file in turn. The first word of the command line is the program's own name.
+fn play_files(rt: &HostRuntime, words: usize, room: &mut [u8], out: &mut [u8]) -> io::Result<()> {
     let mut used = 0;
-    for i in 1..usize::MAX {
-        match rt.arg(i, room) {
-            Ok(n) => {
-                used = play_file(rt, n, room, out, used)?;
-            }
-            // No file has a name that is longer than the room.
-            Err(FillError::TooLong) => {
-                used = play_file(rt, 0, room, out, used)?;
-            }
-            Err(FillError::NotPresent) => break,
-        }
+    let mut i = 1;
+    while i < words {
+        used = play_file(rt, i, room, out, used)?;
+        i += 1;
     }
     output::flush(rt, out, used)
 }
 
-// The line `trace NAME`, and the file's answers. The name is the first `n` bytes of `room` until the file is read over
-// it, so it is written first, and its line is ended once it is known whether the file can be read.
+// The line `trace NAME`, and the file's answers. The name stands in `room` until the file is read over it, so it is
+// written first, and its line is ended once it is known whether the file can be read.
 fn play_file(
     rt: &HostRuntime,
-    n: usize,
+    i: usize,
     room: &mut [u8],
     out: &mut [u8],
     used: usize,
 ) -> output::Held {
+    let n = rt.arg(i, room).unwrap_or(0);
     let used = output::put(rt, out, used, b"trace ")?;
     let used = output::put(rt, out, used, &room[0..n])?;
     let Ok(count) = input::read_file(rt, room, n) else {
