@@ -46,7 +46,7 @@ fn main(rt: HostRuntime) -> io::Result<()> {
     }
 }
 
-// How many words the command line has. Each is read into `room`, of which nothing is left to use.
+// How many words the command line has. Only by reading one into `room` is it known whether it is there.
 fn count_words(rt: &HostRuntime, room: &mut [u8]) -> usize {
     for i in 0..usize::MAX {
         if let Err(FillError::NotPresent) = rt.arg(i, room) {
