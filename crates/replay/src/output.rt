@@ -7,7 +7,7 @@ ghost use Rattle.std.proofs.Math.Seq.{paste};
 
 use std::io;
 
-// How many bytes are held then, where none had to be written or they could be.
+// How many bytes are held then, or why some could not be written.
 pub type Held = io::Result<usize>;
 
 // Adds `bytes`. Where they find no room, what is held is written first, and so are bytes that no empty buffer has room
@@ -25,7 +25,7 @@ pub fn put(rt: &HostRuntime, out: &mut [u8], used: usize, bytes: &[u8]) -> Held 
     Ok(0)
 }
 
-// Writes what is held. A failure ends the program, which tells it on standard error.
+// Writes what is held. Where that fails, the error goes up to `main` and ends the program.
 pub fn flush(rt: &HostRuntime, out: &[u8], used: usize) -> io::Result<()> {
     let held = at_most(used, out.len());
     rt.write_all(&out[0..held])
