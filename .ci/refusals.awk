@@ -29,6 +29,11 @@ function quoted(text, into,    n) {
     return n
 }
 
+# The goals that an edit may name anew are named after a test, as `returns-then-x-lt8`: these go by the first word. No edit renames `returns`.
+function family(goal) {
+    return index(goal, "-") ? substr(goal, 1, index(goal, "-") - 1) : goal == "" ? "any" : "none"
+}
+
 # The wrong answers of the edit.
 FNR == NR {
     if ($0 !~ /^wrong: /) next
@@ -58,6 +63,15 @@ FNR == NR {
     next
 }
 
+# The answers of a function go by the names that the edit gave its goals, and so do the facts that are named here.
+/^in [^ ]+, [^ ]+ is now [^ ]+$/ {
+    in_file = "proofs/" substr($2, 1, length($2) - 1) "/Answers.antt"
+    for (i = 1; i <= n; i++)
+        if ((i in line) && (i in fact) && in_file ~ path[i] && (at = index(fact[i] "-", "-" $3 "-")))
+            fact[i] = substr(fact[i], 1, at) $6 substr(fact[i], at + 1 + length($3))
+    next
+}
+
 /^not applied: / { refusal = $0; next }
 /^[^ ]+: error\[[a-z0-9-]+\]/ { if (!refusal) refusal = "it does not compile: " $0; next }
 /^logic=/ { verdict = 1; next }
@@ -77,7 +91,10 @@ FNR == NR {
     for (i = 1; i <= n; i++)
         if ((i in path) && in_file ~ path[i]) {
             # Without its answer a goal of a function stays open, and that shows nothing.
-            if (what == "name" && ((i in line) || in_name == fact[i])) lost[i] = said
+            if (what == "name" && ((i in line) || in_name == fact[i])) {
+                lost[i] = said
+                gone[i, family(in_name)] = 1
+            }
             else if (!(i in fact) || in_name == fact[i]) seen[i, what] = 1
             else if (what == "cited") seen[i, what] = 1
         }
@@ -116,7 +133,7 @@ FNR == NR {
             outcome[i] = said
             for (it in open)
                 if (!(i in fact) || it == fact[i]) {
-                    left[i] = 1
+                    left[i, family(it)] = 1
                     if (it in untrue) seen[i, "fact"] = 1
                 }
         }
@@ -125,6 +142,10 @@ FNR == NR {
 }
 
 END {
+    for (it in left) {
+        split(it, word, SUBSEP)
+        if (!((word[1], "any") in gone) && !(it in gone && word[2] != "none")) seen[word[1], "fact"] = 1
+    }
     for (i = 1; i <= n; i++) {
         what = "untouched"
         why = ""
@@ -134,7 +155,6 @@ END {
         else if ((i in line) && found[i] != 1) { what = "spoilt"; why = "the log has " (found[i] ? "more than one" : "no") " such function" }
         else if (seen[i, "fact"]) what = "refused"
         else if (i in lost) { what = "spoilt"; why = "refused for a name and not for the fact: " substr(lost[i], 1, 160) }
-        else if (left[i]) what = "refused"
         else if (seen[i, "limit"]) why = "refused by a limit of the prover alone"
         else if (seen[i, "cited"]) why = "refused for what it cites alone"
         else why = "no refusal of its own" (outcome[i] == "" ? "" : ": " substr(outcome[i], 1, 160))
