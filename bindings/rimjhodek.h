@@ -1,5 +1,5 @@
 /* Rimjhodek: the VR4300's system control, proved. The exported functions of Rattle's crate `rimjhodek`, in
- * librimjhodek.a, which `rt staticlib rimjhodek` writes for x86-64 Linux.
+ * librimjhodek.a, which `rt lib` in crates/rimjhodek writes for x86-64 Linux.
  *
  * State is plain words that the caller owns and lends: 38 for a register file, 132 for a TLB, a cache's lines and its
  * tags. Nothing is kept between calls, so that any thread may call with state of its own, and a copy of the words is a

@@ -1,8 +1,8 @@
-//! Proves and builds `librimjhodek.a` with `rt staticlib rimjhodek`, and links it.
+//! Proves and builds `librimjhodek.a` with `rt lib` in `crates/rimjhodek`, and links it.
 
 use std::path::{Path, PathBuf};
 use std::process::Command;
-use std::{env, fs};
+use std::{env, fs, io};
 
 /// What the archive is built for.
 const TARGET: &str = "x86_64-unknown-linux-gnu";
@@ -43,10 +43,9 @@ fn folder() -> Result<PathBuf, String> {
 fn build() -> Result<PathBuf, String> {
     let root = Path::new(&env::var_os("CARGO_MANIFEST_DIR").unwrap()).join("../..");
     let root = fs::canonicalize(root).map_err(|e| format!("the repository's root: {e}"))?;
-    for source in ["crates", "crates.txt"] {
-        println!("cargo::rerun-if-changed={}", root.join(source).display());
-    }
-    let ran = Command::new("rt").args(["staticlib", "rimjhodek"]).current_dir(&root).output();
+    watch(&root).map_err(|e| format!("the repository's crates: {e}"))?;
+    let folder = root.join("crates/rimjhodek");
+    let ran = Command::new("rt").arg("lib").current_dir(&folder).output();
     let said = ran.map_err(|e| {
         format!(
             "`rt` does not run ({e}): put Rattle's command on the path, \
@@ -58,7 +57,22 @@ fn build() -> Result<PathBuf, String> {
             let text = String::from_utf8_lossy(&text);
             text.lines().for_each(|line| println!("cargo::error={line}"));
         }
-        return Err(format!("`rt staticlib rimjhodek` failed in {}", root.display()));
+        return Err(format!("`rt lib` failed in {}", folder.display()));
     }
-    Ok(root.join("target/staticlib"))
+    Ok(folder.join("out"))
+}
+
+/// Names the sources to cargo, and not what `rt` writes beside them.
+fn watch(root: &Path) -> io::Result<()> {
+    println!("cargo::rerun-if-changed={}", root.join("crates.txt").display());
+    for folder in fs::read_dir(root.join("crates"))? {
+        let folder = folder?.path();
+        for part in ["src", "specs", "proofs"] {
+            let source = folder.join(part);
+            if source.is_dir() {
+                println!("cargo::rerun-if-changed={}", source.display());
+            }
+        }
+    }
+    Ok(())
 }
