@@ -34,6 +34,12 @@ function family(goal) {
     return index(goal, "-") ? substr(goal, 1, index(goal, "-") - 1) : goal == "" ? "any" : "none"
 }
 
+# Notes what was refused in the function or the file of a wrong answer, for whoever named another place.
+function refuse(i, name) {
+    if (name != "" && !((i, name) in noted)) besides[i] = besides[i] (besides[i] == "" ? "" : ", ") name
+    noted[i, name] = 1
+}
+
 # The wrong answers of the edit.
 FNR == NR {
     if ($0 !~ /^wrong: /) next
@@ -91,6 +97,7 @@ FNR == NR {
     for (i = 1; i <= n; i++)
         if ((i in path) && in_file ~ path[i]) {
             # Without its answer a goal of a function stays open, and that shows nothing.
+            if (what == "fact") refuse(i, in_name)
             if (what == "name" && ((i in line) || in_name == fact[i])) {
                 lost[i] = said
                 gone[i, family(in_name)] = 1
@@ -131,6 +138,7 @@ FNR == NR {
         if ((i in line) && name ~ line[i]) {
             found[i]++
             outcome[i] = said
+            for (it in open) refuse(i, it)
             for (it in open)
                 if (!(i in fact) || it == fact[i]) {
                     left[i, family(it)] = 1
@@ -158,6 +166,7 @@ END {
         else if (seen[i, "limit"]) why = "refused by a limit of the prover alone"
         else if (seen[i, "cited"]) why = "refused for what it cites alone"
         else why = "no refusal of its own" (outcome[i] == "" ? "" : ": " substr(outcome[i], 1, 160))
+        if (what != "refused" && (i in besides)) why = why "; what is refused there: " substr(besides[i], 1, 200)
         print label[i] "\t" what "\t" ((i in place) ? "in " place[i] ": " : "") why
     }
 }
