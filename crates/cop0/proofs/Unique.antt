@@ -2,7 +2,10 @@
 -- the answer and, where the record was lent, what it is left at.
 use Rattle.std.proofs.Common.{◌≡◌, ℕ, Bool, List, ap₂}
 use contract.Lifetimes.{Lfts}
-use borrow.Fn.World.{ArgsD}
+use base.Logic.{ent, sep, fst∗, snd∗}
+use contract.Monad.{fact, fact_i, fact_use}
+use borrow.Fn.World.{World, Pr, ArgsD}
+use denote.Triple.Clauses.{AtExit}
 use Rattle.bits.proofs.Same.{same}
 use Rattle.cop0.specs.declared.registers.Cop0.{Cop0}
 use Rattle.cop0.specs.declared.clock.Polled.{Polled}
@@ -33,8 +36,7 @@ use Rattle.cop0.proofs.registers.Cop0.interrupt_pending.Reads as interrupt_pendi
 use Rattle.cop0.proofs.registers.Cop0.advance.Reads as advance
 use Rattle.cop0.proofs.registers.is_wide.Reads as is_wide
 use Rattle.cop0.proofs.access.Cop0Op.from_rs.Reads as from_rs
-use Rattle.cop0.specs.contracts.in_place.advance_in_place as lent
-use Rattle.cop0.proofs.in_place.advance_in_place.Reads as advance_in_place
+use Rattle.cop0.specs.contracts.in_place.advance_in_place as advance_in_place
 
 abbrev made : AdvanceAnswer → Cop0 → Advanced
 made a c = record { answer = a; cop0 = c }
@@ -113,9 +115,19 @@ advance_unique a r r' p q =
     (advance_one r.answer r'.answer (same p.0 q.0))
     (same p.1 q.1)
 
-pub advance_in_place_unique : (κs : Lfts 1) (a : ArgsD lent.signature κs) (r r' : ℕ) (s s' : _)
-    → advance_in_place.Post κs a r s → advance_in_place.Post κs a r' s' → (r ≡ r') × (s.0.now ≡ s'.0.now)
-advance_in_place_unique κs a r r' s s' p q = (same p.0 q.0, same p.1 q.1)
+-- the clause of the contract itself, at a model of the logic
+abbrev left_at : (w : World) (κs : Lfts 1) (a : ArgsD advance_in_place.signature κs) → ℕ → AtExit advance_in_place.ended κs → Pr w
+left_at w κs a r s =
+    (advance_in_place.clauses w.𝓛 w.𝓜.mem w.𝓡.run κs a).ensures tt r s
+
+-- at every model: where the clause holds of two outcomes, they are one
+pub advance_in_place_unique : (w : World) (κs : Lfts 1) (a : ArgsD advance_in_place.signature κs) (r r' : ℕ)
+    (s s' : AtExit advance_in_place.ended κs)
+    → ent w.𝓤 (sep w.𝓤 (left_at w κs a r s) (left_at w κs a r' s')) (fact w.𝓤 ((r ≡ r') × (s.0.now ≡ s'.0.now)))
+advance_in_place_unique w κs a r r' s s' =
+    fact_use w.𝓤 _ (fst∗ w.𝓤 (left_at w κs a r s) (left_at w κs a r' s')) (λ p.
+    fact_use w.𝓤 _ (snd∗ w.𝓤 (left_at w κs a r s) (left_at w κs a r' s')) (λ q.
+    fact_i w.𝓤 _ _ (same p.0 q.0, same p.1 q.1)))
 
 pub is_wide_unique : (a : ℕ × Unit {0}) (r r' : Bool) → is_wide.Post tt a r a → is_wide.Post tt a r' a → r ≡ r'
 is_wide_unique a r r' = same

@@ -15,8 +15,7 @@ struct Coded {
 // `Cop0::advance` that changes the record where it stands, so that it need not pass through the call. Answers 0 for no edge, 1
 // for an edge, or the number of the refusal.
 pub fn advance_in_place(c: &mut Cop0, counts: u64, steps: u64) -> u8
-    ensures value { result ≡ advance_code c.old counts steps }
-    ensures c_after { c.new ≡ advance_of c.old counts steps }
+    ensures { (result ≡ advance_code c.old counts steps) × (c.new ≡ advance_of c.old counts steps) }
 {
     let after = advance_coded(*c, counts, steps);
     *c = after.cop0;
