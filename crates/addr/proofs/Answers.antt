@@ -1,4 +1,4 @@
--- The numbers and values of answers are one_to_one: each has the answer that it came from.
+-- The numbers and values of answers are one-to-one: each has the answer that it came from.
 use mathlib.Core.Path.{◌≡◌, refl, ap}
 use mathlib.Core.Bool.{cond}
 use mathlib.Core.List.{List, [], ◌∷◌}

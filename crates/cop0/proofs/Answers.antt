@@ -1,4 +1,4 @@
--- The numbers and values of answers are one_to_one: each has the answer that it came from.
+-- The numbers and values of answers are one-to-one: each has the answer that it came from.
 use Rattle.std.proofs.Common.{◌≡◌, ℕ, ◌^◌, Bool, true, false, cond, eqb, ltb, List, [], ◌∷◌, sym, refl, ap, ◌∙◌}
 use Rattle.bits.specs.Field.{bit}
 use Rattle.bits.specs.Told.{Told, answered, refused}

@@ -1,4 +1,4 @@
--- The values of answers are one_to_one: each has the answer that it came from.
+-- The values of answers are one-to-one: each has the answer that it came from.
 use mathlib.Core.Path.{◌≡◌, refl}
 use mathlib.Core.List.{List, [], ◌∷◌}
 use Prim.Native.Nat.{ℕ}

@@ -1,4 +1,4 @@
--- The numbers of the vectors are one_to_one: each has the vector that it came from.
+-- The numbers of the vectors are one-to-one: each has the vector that it came from.
 use Rattle.std.proofs.Common.{◌≡◌, ℕ, cond, eqb, refl}
 use Rattle.bits.proofs.Same.{one_to_one}
 use Rattle.exception.specs.declared.vectors.VectorKind.{VectorKind}

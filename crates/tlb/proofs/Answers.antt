@@ -1,4 +1,4 @@
--- The values of a lookup's answer are one_to_one: each has the answer that it came from.
+-- The values of a lookup's answer are one-to-one: each has the answer that it came from.
 use mathlib.Core.Path.{◌≡◌, refl, ap}
 use mathlib.Core.Bool.{Bool, cond}
 use mathlib.Core.List.{List, [], ◌∷◌}
