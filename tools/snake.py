@@ -21,16 +21,17 @@ LET = re.compile(r"\blet\s+" + NAME + r"\s*(?::|=)")
 BOUND = re.compile(r"[({]((?:" + NAME[1:-1] + r"\s+)*" + NAME[1:-1] + r")\s+:\s")
 ALIAS = re.compile(r"\bas\s+" + NAME)
 IMPORT = re.compile(r"^\s*(?:pub\s+)?(?:ghost\s+)?use\s+([^\s{]+?)\.?\{([^}]*)\}", re.M)
-# Lemmas whose names would fall together with those of the definitions that they are about.
+# Lemmas whose names would fall together with those of the definitions that they are about, and a definition that is there as long as
+# they have the old name: a second run finds nothing to do.
 LEMMAS = {
-    "all_digits": "all_digits_lem",
-    "entry-at": "entry_at_lem",
-    "is-reset": "is_reset_lem",
-    "line-if": "line_if_lem",
-    "read_told": "read_told_lem",
-    "segment-told": "segment_told_lem",
-    "to-go": "to_go_lem",
-    "write-told": "write_told_lem",
+    "all_digits": ("all_digits_lem", "allDigits"),
+    "entry-at": ("entry_at_lem", "entry-at"),
+    "is-reset": ("is_reset_lem", "isReset"),
+    "line-if": ("line_if_lem", "lineIf"),
+    "read_told": ("read_told_lem", "readTold"),
+    "segment-told": ("segment_told_lem", "segmentTold"),
+    "to-go": ("to_go_lem", "toGo"),
+    "write-told": ("write_told_lem", "writeTold"),
 }
 MADE = re.compile(r"(?:\b(?:c|w|tie|goal|lts|args|requires|ensures|before|after)\.)$")
 
@@ -92,7 +93,9 @@ def main(argv):
     root = os.getcwd()
     own = set(os.listdir(os.path.join(root, "crates")))
     names = declared(root)
-    turned = {name: snake(name) for name in names if is_odd(name)} | LEMMAS
+    turned = {name: snake(name) for name in names if is_odd(name)}
+    lemmas = {old: new for old, (new, definition) in LEMMAS.items() if definition in names}
+    turned |= lemmas
     clash = collections.defaultdict(list)
     for name in names:
         clash[turned.get(name, name)].append(name)
@@ -111,7 +114,7 @@ def main(argv):
         def turn(match):
             word = match[0]
             new = turned.get(word)
-            if new is None or word in kept or (is_source and ("-" in word or word in LEMMAS)):
+            if new is None or word in kept or (is_source and ("-" in word or word in lemmas)):
                 return word
             if MADE.search(text[max(0, match.start() - 12) : match.start()]):
                 return word
