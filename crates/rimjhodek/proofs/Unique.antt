@@ -74,7 +74,7 @@ use Rattle.rimjhodek.proofs.exceptions.rimjhodek_exc_code_of.Reads as exc_code_o
 use Rattle.rimjhodek.proofs.exceptions.rimjhodek_vector_kind_of.Reads as vector_kind_of_reads
 use Rattle.rimjhodek.proofs.exceptions.rimjhodek_writes_bad_vaddr.Reads as writes_bad_vaddr_reads
 use Rattle.rimjhodek.proofs.modes.rimjhodek_from_status.Reads as from_status_reads
-use Rattle.rimjhodek.proofs.modes.rimjhodek_segment.Reads as segment_Reads
+use Rattle.rimjhodek.proofs.modes.rimjhodek_segment.Reads as segment_reads
 use Rattle.rimjhodek.specs.contracts.registers.rimjhodek_cop0_new as cop0_new
 use Rattle.rimjhodek.proofs.registers.rimjhodek_cop0_new.Reads as cop0_new_reads
 use Rattle.rimjhodek.specs.contracts.registers.rimjhodek_mfc0 as mfc0
@@ -240,7 +240,7 @@ instruction_resident_addr_unique κs a r r' s s' p q = same p q
 pub from_status_unique : (a : ℕ × Unit {0}) (r r' : Granted) → from_status_reads.Post tt a r a → from_status_reads.Post tt a r' a → r ≡ r'
 from_status_unique a r r' = same
 
-pub segment_unique : (a : ℕ × (By × Unit {0})) (r r' : Reached) → segment_Reads.Post tt a r a → segment_Reads.Post tt a r' a → r ≡ r'
+pub segment_unique : (a : ℕ × (By × Unit {0})) (r r' : Reached) → segment_reads.Post tt a r a → segment_reads.Post tt a r' a → r ≡ r'
 segment_unique a r r' = same
 
 pub dispatch_unique : (κs : Lifetimes.Lfts 1) (a : World.ArgsD dispatch.signature κs) (r r' : Taken) (s s' : _)

@@ -29,7 +29,7 @@ use Rattle.tags.proofs.tag_word.stored.Reads as stored_reads
 use Rattle.tags.specs.contracts.tag_array.is_whole as is_whole
 use Rattle.tags.proofs.tag_array.is_whole.Reads as is_whole_reads
 use Rattle.tags.specs.contracts.tag_array.index as index
-use Rattle.tags.proofs.tag_array.index.Reads as index_Reads
+use Rattle.tags.proofs.tag_array.index.Reads as index_reads
 use Rattle.tags.specs.contracts.tag_array.start as start
 use Rattle.tags.proofs.tag_array.start.Reads as start_reads
 use Rattle.tags.specs.contracts.tag_array.word_at as word_at
@@ -86,7 +86,7 @@ pub is_whole_unique : (κs : Lifetimes.Lfts 1) (a : World.ArgsD is_whole.signatu
 is_whole_unique κs a r r' s s' p q = same p q
 
 pub index_unique : (κs : Lifetimes.Lfts 0) (a : World.ArgsD index.signature κs) (r r' : ℕ) (s s' : _)
-    → index_Reads.Post κs a r s → index_Reads.Post κs a r' s' → r ≡ r'
+    → index_reads.Post κs a r s → index_reads.Post κs a r' s' → r ≡ r'
 index_unique κs a r r' s s' p q = same p q
 
 pub start_unique : (κs : Lifetimes.Lfts 0) (a : World.ArgsD start.signature κs) (r r' : ℕ) (s s' : _)
