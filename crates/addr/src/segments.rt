@@ -27,6 +27,7 @@ pub enum Segment {
 
 impl Access {
     // The segment of an address (5.2.4, tables 5-3 and 5-4): the half of translation that needs no TLB.
+    #[tactic(auto, unfolding(crate::specs::Segments::segment_of))]
     pub fn segment(self, vaddr: u64) -> Segment
         ensures { told_segment result ≡ told_segment (segment_of self vaddr) }
     {

@@ -229,6 +229,7 @@ fn no_number() -> Number
     }
 }
 
+#[tactic(auto, unfolding(crate::specs::Exceptions::exception_of))]
 fn exception_of(exc: Exc) -> Exception
     ensures { result ≡ exception_of exc }
 {
@@ -254,6 +255,7 @@ fn exception_of(exc: Exc) -> Exception
     }
 }
 
+#[tactic(auto, unfolding(crate::specs::Exceptions::kind_of))]
 fn kind_of(kind: u8) -> VectorKind
     ensures { result ≡ kind_of kind }
 {

@@ -123,6 +123,7 @@ pub(crate) fn access_in(access: By) -> Access
     }
 }
 
+#[tactic(auto, unfolding(crate::specs::Modes::mode_in))]
 fn mode_in(mode: u8) -> Mode
     ensures { result ≡ mode_in mode }
 {

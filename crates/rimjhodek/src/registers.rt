@@ -231,6 +231,7 @@ pub extern "C" fn rimjhodek_is_wide(n: u32) -> bool
 }
 
 // The access form that an rs field names: 0 MFC0, 1 DMFC0, 2 MTC0, 3 DMTC0.
+#[tactic(auto, unfolding(crate::specs::Registers::form_of, cop0::specs::Access::from_rs_of, cop0::specs::Registers::among))]
 #[unsafe(no_mangle)]
 pub extern "C" fn rimjhodek_from_rs(rs: u32) -> Number
     ensures { result ≡ form_of (from_rs_of rs) }

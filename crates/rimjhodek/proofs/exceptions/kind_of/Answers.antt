@@ -6,18 +6,6 @@ use Rattle.rimjhodek.specs.Exceptions.{kinds, kind_of}
 use Rattle.rimjhodek.proofs.Naming.{last_named}
 use Rattle.rimjhodek.proofs.exceptions.kind_of.Goals as goal
 
-pub returns-in-0 : goal.returns-in-0
-unfolding kind_of
-returns-in-0 c = rw c.in-0.is
-
-pub returns-in-1 : goal.returns-in-1
-unfolding kind_of
-returns-in-1 c = rw c.in-1.is
-
-pub returns-in-2 : goal.returns-in-2
-unfolding kind_of
-returns-in-2 c = rw c.in-2.is
-
 pub returns-in_default : goal.returns-in_default
 unfolding kind_of
 returns-in_default c =

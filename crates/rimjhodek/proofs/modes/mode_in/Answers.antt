@@ -6,14 +6,6 @@ use Rattle.rimjhodek.specs.Modes.{modes, mode_in}
 use Rattle.rimjhodek.proofs.Naming.{last_named}
 use Rattle.rimjhodek.proofs.modes.mode_in.Goals as goal
 
-pub returns-in-0 : goal.returns-in-0
-unfolding mode_in
-returns-in-0 c = rw c.in-0.is
-
-pub returns-in-1 : goal.returns-in-1
-unfolding mode_in
-returns-in-1 c = rw c.in-1.is
-
 pub returns-in_default : goal.returns-in_default
 unfolding mode_in
 returns-in_default c =
