@@ -13,7 +13,7 @@ pub fn low32(x: u64) -> u32
 pub fn sign_extend(x: u32) -> u64
     ensures { result ≡ sign_extended x }
 {
-    std::num::wrapping_sub_u64(x as u64 ^ 0x8000_0000, 0x8000_0000)
+    (x as u64 ^ 0x8000_0000).wrapping_sub(0x8000_0000)
 }
 
 // 32 bits as an unsigned number, extended to 64.

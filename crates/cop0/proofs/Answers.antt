@@ -1,14 +1,13 @@
 -- The numbers and values of answers are one-to-one: each has the answer that it came from.
-use Rattle.std.proofs.Common.{◌≡◌, ℕ, ◌^◌, Bool, true, false, cond, eqb, ltb, List, [], ◌∷◌, sym, refl, ap, ◌∙◌}
+use Rattle.std.proofs.Common.{◌≡◌, ℕ, ◌^◌, Bool, true, false, cond, eqb, ltb, Result, Ok, Err, List, [], ◌∷◌, sym, refl, ap, ◌∙◌}
 use Rattle.bits.specs.Field.{bit}
 use Rattle.bits.specs.Told.{Told, answered, refused}
 use Rattle.bits.proofs.Same.{one_to_one}
 use Rattle.cop0.specs.declared.access.Cop0Op.{Cop0Op}
 use Rattle.cop0.specs.declared.access.Cop0Op.TheVariants.{Mfc0, Dmfc0, Mtc0, Dmtc0}
-use Rattle.cop0.specs.declared.access.FromRs.{FromRs}
-use Rattle.cop0.specs.declared.access.FromRs.TheVariants.{Op, Refused}
-use Rattle.cop0.specs.declared.advance.AdvanceAnswer.{AdvanceAnswer}
-use Rattle.cop0.specs.declared.advance.AdvanceAnswer.TheVariants.{Edge, Refused as NoAdvance}
+use Rattle.cop0.specs.declared.refusal.Refusal.{Refusal}
+use Rattle.cop0.specs.declared.refusal.Refusal.TheVariants.{Counts, Form}
+use Rattle.cop0.specs.Refusals.{refusal_number}
 use Rattle.cop0.specs.declared.registers.Cop0.{Cop0}
 use Rattle.cop0.specs.Access.{rs_of, told_from_rs}
 use Rattle.cop0.specs.Clock.{edge_of}
@@ -23,27 +22,34 @@ form_rs Dmfc0 = refl
 form_rs Mtc0 = refl
 form_rs Dmtc0 = refl
 
-abbrev from_rs_at : ℕ → List ℕ → FromRs
-from_rs_at n [] = Refused n
-from_rs_at n (v ∷ vs) = Op (form_of v)
+abbrev refusal_of : ℕ → Refusal
+refusal_of n = cond (eqb n 5) Counts Form
 
-from_rs_undone : (a : FromRs) → from_rs_at (told_from_rs a).number (told_from_rs a).values ≡ a
-from_rs_undone (Op o) = ap Op (form_rs o)
-from_rs_undone (Refused n) = refl
+refusal_undone : (r : Refusal) → refusal_of (refusal_number r) ≡ r
+refusal_undone Counts = refl
+refusal_undone Form = refl
 
-pub from_rs_one : (a a' : FromRs) → told_from_rs a ≡ told_from_rs a' → a ≡ a'
+abbrev from_rs_at : ℕ → List ℕ → Result Cop0Op Refusal
+from_rs_at n [] = Err (refusal_of n)
+from_rs_at n (v ∷ vs) = Ok (form_of v)
+
+from_rs_undone : (a : Result Cop0Op Refusal) → from_rs_at (told_from_rs a).number (told_from_rs a).values ≡ a
+from_rs_undone (Ok o) = ap Ok (form_rs o)
+from_rs_undone (Err r) = ap Err (refusal_undone r)
+
+pub from_rs_one : (a a' : Result Cop0Op Refusal) → told_from_rs a ≡ told_from_rs a' → a ≡ a'
 from_rs_one = one_to_one told_from_rs (λ (t : Told). from_rs_at t.number t.values) from_rs_undone
 
-abbrev pub advance_at : ℕ → List ℕ → AdvanceAnswer
-advance_at n [] = NoAdvance n
-advance_at n (v ∷ vs) = Edge (eqb v 1)
+abbrev pub advance_at : ℕ → List ℕ → Result Bool Refusal
+advance_at n [] = Err (refusal_of n)
+advance_at n (v ∷ vs) = Ok (eqb v 1)
 
-pub advance_undone : (a : AdvanceAnswer) → advance_at (told_advance a).number (told_advance a).values ≡ a
-advance_undone (Edge true) = refl
-advance_undone (Edge false) = refl
-advance_undone (NoAdvance n) = refl
+pub advance_undone : (a : Result Bool Refusal) → advance_at (told_advance a).number (told_advance a).values ≡ a
+advance_undone (Ok true) = refl
+advance_undone (Ok false) = refl
+advance_undone (Err r) = ap Err (refusal_undone r)
 
-pub advance_one : (a a' : AdvanceAnswer) → told_advance a ≡ told_advance a' → a ≡ a'
+pub advance_one : (a a' : Result Bool Refusal) → told_advance a ≡ told_advance a' → a ≡ a'
 advance_one = one_to_one told_advance (λ (t : Told). advance_at t.number t.values) advance_undone
 
 -- what crossed as n: an edge or none, or the refusal

@@ -1,6 +1,6 @@
 -- No second outcome fits the contract of any public operation: shown on the contracts as the checker reads them. An outcome is
 -- the answer and, where the record was lent, what it is left at.
-use Rattle.std.proofs.Common.{◌≡◌, ℕ, Bool, List, ap₂}
+use Rattle.std.proofs.Common.{◌≡◌, ℕ, Bool, List, Result, ap₂}
 use contract.Lifetimes.{Lfts}
 use base.Logic.{ent, sep, fst∗, snd∗}
 use contract.Monad.{fact, fact_i, fact_use}
@@ -9,9 +9,9 @@ use denote.Triple.Clauses.{AtExit}
 use Rattle.bits.proofs.Same.{same}
 use Rattle.cop0.specs.declared.registers.Cop0.{Cop0}
 use Rattle.cop0.specs.declared.clock.Polled.{Polled}
-use Rattle.cop0.specs.declared.advance.AdvanceAnswer.{AdvanceAnswer}
 use Rattle.cop0.specs.declared.advance.Advanced.{Advanced}
-use Rattle.cop0.specs.declared.access.FromRs.{FromRs}
+use Rattle.cop0.specs.declared.access.Cop0Op.{Cop0Op}
+use Rattle.cop0.specs.declared.refusal.Refusal.{Refusal}
 use Rattle.cop0.proofs.Answers.{from_rs_one, advance_one}
 use Rattle.cop0.proofs.registers.Cop0.new.Reads as new
 use Rattle.cop0.proofs.registers.Cop0.numbers.Reads as numbers
@@ -38,7 +38,7 @@ use Rattle.cop0.proofs.registers.is_wide.Reads as is_wide
 use Rattle.cop0.proofs.access.Cop0Op.from_rs.Reads as from_rs
 use Rattle.cop0.specs.contracts.in_place.advance_in_place as advance_in_place
 
-abbrev made : AdvanceAnswer → Cop0 → Advanced
+abbrev made : Result Bool Refusal → Cop0 → Advanced
 made a c = record { answer = a; cop0 = c }
 
 pub new_unique : (a : Unit {0}) (r r' : Cop0) → new.Post tt a r a → new.Post tt a r' a → r ≡ r'
@@ -116,21 +116,21 @@ advance_unique a r r' p q =
     (same p.1 q.1)
 
 -- the clause of the contract itself, at a model of the logic
-abbrev left_at : (w : World) (κs : Lfts 1) (a : ArgsD advance_in_place.signature κs) → ℕ → AtExit advance_in_place.ended κs → Pr w
+abbrev left_at : (w : World) (κs : Lfts 1) (a : ArgsD advance_in_place.signature κs) → Result Bool Refusal → AtExit advance_in_place.ended κs → Pr w
 left_at w κs a r s =
     (advance_in_place.clauses w.𝓛 w.𝓜.mem w.𝓡.run κs a).ensures tt r s
 
 -- at every model: where the clause holds of two outcomes, they are one
-pub advance_in_place_unique : (w : World) (κs : Lfts 1) (a : ArgsD advance_in_place.signature κs) (r r' : ℕ)
+pub advance_in_place_unique : (w : World) (κs : Lfts 1) (a : ArgsD advance_in_place.signature κs) (r r' : Result Bool Refusal)
     (s s' : AtExit advance_in_place.ended κs)
     → ent w.𝓤 (sep w.𝓤 (left_at w κs a r s) (left_at w κs a r' s')) (fact w.𝓤 ((r ≡ r') × (s.0.now ≡ s'.0.now)))
 advance_in_place_unique w κs a r r' s s' =
     fact_use w.𝓤 _ (fst∗ w.𝓤 (left_at w κs a r s) (left_at w κs a r' s')) (λ p.
     fact_use w.𝓤 _ (snd∗ w.𝓤 (left_at w κs a r s) (left_at w κs a r' s')) (λ q.
-    fact_i w.𝓤 _ _ (same p.0 q.0, same p.1 q.1)))
+    fact_i w.𝓤 _ _ (advance_one r r' (same p.0 q.0), same p.1 q.1)))
 
 pub is_wide_unique : (a : ℕ × Unit {0}) (r r' : Bool) → is_wide.Post tt a r a → is_wide.Post tt a r' a → r ≡ r'
 is_wide_unique a r r' = same
 
-pub from_rs_unique : (a : ℕ × Unit {0}) (r r' : FromRs) → from_rs.Post tt a r a → from_rs.Post tt a r' a → r ≡ r'
+pub from_rs_unique : (a : ℕ × Unit {0}) (r r' : Result Cop0Op Refusal) → from_rs.Post tt a r a → from_rs.Post tt a r' a → r ≡ r'
 from_rs_unique a r r' p q = from_rs_one r r' (same p q)

@@ -1,12 +1,12 @@
 -- The access instructions MFC0, DMFC0, MTC0 and DMTC0, and the rs field that names them.
-use Rattle.std.specs.Prelude.{ℕ, ◌%◌, cond, [], ◌∷◌}
+use Rattle.std.specs.Prelude.{ℕ, ◌%◌, cond, [], ◌∷◌, Result, Ok, Err}
 use Rattle.bits.specs.Told.{Told, answered, refused}
 use Rattle.bits.specs.Extension.{low32_of, sign_extended, zero_extended}
 use Rattle.cop0.specs.declared.registers.Cop0.{Cop0}
 use Rattle.cop0.specs.declared.access.Cop0Op.{Cop0Op}
 use Rattle.cop0.specs.declared.access.Cop0Op.TheVariants.{Mfc0, Dmfc0, Mtc0, Dmtc0}
-use Rattle.cop0.specs.declared.access.FromRs.{FromRs}
-use Rattle.cop0.specs.declared.access.FromRs.TheVariants.{Op, Refused}
+use Rattle.cop0.specs.declared.refusal.Refusal.{Refusal}
+use Rattle.cop0.specs.Refusals.{refusal_number}
 use Rattle.cop0.specs.Registers.{among, wide}
 use Rattle.cop0.specs.Record.{with_latch}
 use Rattle.cop0.specs.File.{read_of, write_of}
@@ -37,9 +37,9 @@ rs_of Mtc0 = 4
 rs_of Dmtc0 = 5
 
 -- the number and the values of each answer
-abbrev pub told_from_rs : FromRs → Told
-told_from_rs (Op o) = answered (rs_of o ∷ [])
-told_from_rs (Refused n) = refused n
+abbrev pub told_from_rs : Result Cop0Op Refusal → Told
+told_from_rs (Ok o) = answered (rs_of o ∷ [])
+told_from_rs (Err r) = refused (refusal_number r)
 
 -- refusal 6: `from_rs` of another number
 unfoldable pub from_rs_of : ℕ → Told

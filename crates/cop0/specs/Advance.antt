@@ -1,19 +1,19 @@
 -- The clock advance: the clock moves forward, Random steps, the timer is asked, and an edge sets pending bit 7.
-use Rattle.std.specs.Prelude.{ℕ, ◌+◌, ◌%◌, ◌^◌, Bool, true, false, cond, [], ◌∷◌, nat_lt, slice_index_or}
+use Rattle.std.specs.Prelude.{ℕ, ◌+◌, ◌%◌, ◌^◌, Bool, true, false, cond, [], ◌∷◌, nat_lt, slice_index_or, Result, Ok, Err}
 use Rattle.bits.specs.Field.{bit}
 use Rattle.bits.specs.Told.{Told, answered, refused}
 use Rattle.cop0.specs.declared.registers.Cop0.{Cop0}
-use Rattle.cop0.specs.declared.advance.AdvanceAnswer.{AdvanceAnswer}
-use Rattle.cop0.specs.declared.advance.AdvanceAnswer.TheVariants.{Edge, Refused}
+use Rattle.cop0.specs.declared.refusal.Refusal.{Refusal}
+use Rattle.cop0.specs.Refusals.{refusal_number}
 use Rattle.cop0.specs.Record.{with_now}
 use Rattle.cop0.specs.Interrupt.{set_ip_of}
 use Rattle.cop0.specs.Clock.{edge_of, asked}
 use Rattle.cop0.specs.Random.{tick_random_by_of}
 
 -- the number and the values of each answer
-abbrev pub told_advance : AdvanceAnswer → Told
-told_advance (Edge e) = answered (bit e ∷ [])
-told_advance (Refused n) = refused n
+abbrev pub told_advance : Result Bool Refusal → Told
+told_advance (Ok e) = answered (bit e ∷ [])
+told_advance (Err r) = refused (refusal_number r)
 
 -- the clock moved forward and Random stepped
 unfoldable pub moved : Cop0 → ℕ → ℕ → Cop0

@@ -1,3 +1,4 @@
+pub mod Refusals
 pub mod Registers
 pub mod Record
 pub mod Interrupt

@@ -2,6 +2,7 @@
 ghost use Rattle.std.specs.Prelude.{◌≡◌};
 ghost use Rattle.cop0.specs.Access.{mfc0_of, dmfc0_of, mtc0_of, dmtc0_of, told_from_rs, from_rs_of};
 
+use crate::refusal::Refusal;
 use crate::registers::{Cop0, is_wide};
 
 impl Cop0 {
@@ -43,7 +44,7 @@ impl Cop0 {
 }
 
 // The access forms.
-#[derive(Clone, Copy)]
+#[derive(Clone, Copy, PartialEq, Eq)]
 pub enum Cop0Op {
     Mfc0,
     Dmfc0,
@@ -51,25 +52,19 @@ pub enum Cop0Op {
     Dmtc0,
 }
 
-// What an rs field names, or the number of the refusal.
-#[derive(Clone, Copy)]
-pub enum FromRs {
-    Op(Cop0Op),
-    Refused(u8),
-}
-
 impl Cop0Op {
+    #[tactic(auto, unfolding(crate::specs::Access::from_rs_of, crate::specs::Registers::among))]
     // The access form that the rs field of a COP0 instruction names. The TLB instructions and ERET, which have bit 4 set,
     // are no access forms.
-    pub fn from_rs(rs: u8) -> FromRs
+    pub fn from_rs(rs: u8) -> Result<Cop0Op, Refusal>
         ensures { told_from_rs result ≡ from_rs_of rs }
     {
         match rs {
-            0 => FromRs::Op(Cop0Op::Mfc0),
-            1 => FromRs::Op(Cop0Op::Dmfc0),
-            4 => FromRs::Op(Cop0Op::Mtc0),
-            5 => FromRs::Op(Cop0Op::Dmtc0),
-            _ => FromRs::Refused(6),
+            0 => Ok(Cop0Op::Mfc0),
+            1 => Ok(Cop0Op::Dmfc0),
+            4 => Ok(Cop0Op::Mtc0),
+            5 => Ok(Cop0Op::Dmtc0),
+            _ => Err(Refusal::Form),
         }
     }
 }

@@ -2,19 +2,13 @@
 ghost use Rattle.std.specs.Prelude.{◌≡◌};
 ghost use Rattle.cop0.specs.Advance.{told_advance, advance_told, advance_of};
 
+use crate::refusal::Refusal;
 use crate::registers::Cop0;
 
-// Whether the timer had an edge, or the number of the refusal.
-#[derive(Clone, Copy)]
-pub enum AdvanceAnswer {
-    Edge(bool),
-    Refused(u8),
-}
-
-// The answer, and the record after it.
+// Whether the timer had an edge, and the record after it.
 #[derive(Clone, Copy)]
 pub struct Advanced {
-    pub answer: AdvanceAnswer,
+    pub answer: Result<bool, Refusal>,
     pub cop0: Cop0,
 }
 
@@ -26,22 +20,22 @@ impl Cop0 {
     {
         if counts >= 0x1_0000_0000 {
             return Advanced {
-                answer: AdvanceAnswer::Refused(5),
+                answer: Err(Refusal::Counts),
                 cop0: self,
             };
         }
-        self.now = std::num::wrapping_add_u64(self.now, counts);
+        self.now = self.now.wrapping_add(counts);
         let polled = self.tick_random_by(steps).timer_edge();
         let edge = polled.edge;
         let after = polled.cop0;
         if edge {
             return Advanced {
-                answer: AdvanceAnswer::Edge(true),
+                answer: Ok(true),
                 cop0: after.set_ip(7, true),
             };
         }
         Advanced {
-            answer: AdvanceAnswer::Edge(false),
+            answer: Ok(false),
             cop0: after,
         }
     }

@@ -32,8 +32,8 @@ impl Cop0 {
     pub fn count(self) -> u32
         ensures { result ≡ count_of self }
     {
-        let elapsed = std::num::wrapping_sub_u64(self.now, self.count_epoch_tick);
-        std::num::wrapping_add_u32(self.count_epoch_value, bits::low32(elapsed))
+        let elapsed = self.now.wrapping_sub(self.count_epoch_tick);
+        self.count_epoch_value.wrapping_add(bits::low32(elapsed))
     }
 
     // Is Count equal to Compare? (6.3.4)
@@ -49,7 +49,7 @@ impl Cop0 {
     pub fn timer_edge(mut self) -> Polled
         ensures { result ≡ polled_of self }
     {
-        let traveled = std::num::wrapping_sub_u32(self.count(), self.last_count);
+        let traveled = self.count().wrapping_sub(self.last_count);
         let to_compare = self.to_compare();
         self = self.ask();
         let edge = 1 <= to_compare && to_compare <= traveled;
@@ -87,6 +87,6 @@ impl Cop0 {
     fn to_compare(self) -> u32
         ensures { result ≡ to_compare self }
     {
-        std::num::wrapping_sub_u32(self.compare(), self.last_count)
+        self.compare().wrapping_sub(self.last_count)
     }
 }

@@ -7,10 +7,12 @@ mod clock;
 mod in_place;
 mod interrupt;
 mod random;
+mod refusal;
 mod registers;
 
-pub use access::{Cop0Op, FromRs};
-pub use advance::{AdvanceAnswer, Advanced};
+pub use access::Cop0Op;
+pub use advance::Advanced;
 pub use clock::Polled;
 pub use in_place::advance_in_place;
+pub use refusal::Refusal;
 pub use registers::{Cop0, is_wide};

@@ -13,10 +13,10 @@ returns-then-edge c =
     simp c.set_ip.ensures
     (simp c.if-edge.true at
     (advances c.args.self _ _ _ _ _ (search rules)
-    c.wrapping_add_u64.ensures.value c.tick_random_by.ensures c.timer_edge-polled.ensures))
+    refl c.tick_random_by.ensures c.timer_edge-polled.ensures))
 
 pub returns : goal.returns
 returns c =
     simp c.if-edge.false at
     (advances c.args.self _ _ _ _ _ (search rules)
-    c.wrapping_add_u64.ensures.value c.tick_random_by.ensures c.timer_edge-polled.ensures)
+    refl c.tick_random_by.ensures c.timer_edge-polled.ensures)
