@@ -1,4 +1,5 @@
 -- The entry that a probe finds is the lowest that matches, and `jtlb_has_match` agrees with the lookup.
+use Rattle.std.proofs.Common.{Err}
 use mathlib.Core.Path.{◌≡◌, refl, ap, sym}
 use mathlib.Core.Bool.{Bool, true, false, cond, false≢true}
 use mathlib.Core.List.{List, [], ◌∷◌}
@@ -10,7 +11,6 @@ use lib.ListN.{length, get_or}
 use borrow.Author.Tests.{ltb-false, ltb-true}
 use Rattle.tlb.specs.declared.entries.Entry.{Entry}
 use Rattle.tlb.specs.declared.entries.TlbFault.TheVariants.{Refill}
-use Rattle.tlb.specs.declared.entries.LookupAnswer.TheVariants.{Fault}
 use Rattle.tlb.specs.declared.table.Tlb.{Tlb}
 use Rattle.tlb.specs.declared.table.Hits.{Hits}
 use Rattle.tlb.specs.Entries.{matches_of, entry_answer}
@@ -94,18 +94,18 @@ module _ (t : Tlb) (v asid : ℕ) where
   -- `jtlb_has_match` says no exactly where the table is shut down or no entry matches: then the lookup gives Refill and
   -- leaves the table alone
   pub no_match_refill : length t.entries ≡ 32 → has_match_of t v asid ≡ false → (store : Bool)
-      → (lookup_answer t v asid store ≡ Fault Refill) × (lookup_table t v asid ≡ t)
+      → (lookup_answer t v asid store ≡ Err Refill) × (lookup_table t v asid ≡ t)
   unfolding has_match_of lowest
   no_match_refill len e store = go t.shutdown refl e
     where
       empty : t.shutdown ≡ false → (l : List ℕ) → matching t.entries v asid 0 ≡ l → 32 ≤ (hits_of l).first
-          → (lookup_answer t v asid store ≡ Fault Refill) × (lookup_table t v asid ≡ t)
+          → (lookup_answer t v asid store ≡ Err Refill) × (lookup_table t v asid ≡ t)
       empty s [] q h = let r = nothing t v asid store s (hits_of []) (sym (ap hits_of q)) len refl h in (sym r.0, sym r.1)
       empty s (i ∷ []) q h = absurd (omega (arith, below t.entries v asid 0 i [] q))
       empty s (i ∷ j ∷ is) q h = absurd (omega (arith, below t.entries v asid 0 i (j ∷ is) q))
 
       go : (b : Bool) → t.shutdown ≡ b → cond b false (ltb (hits_of (matching t.entries v asid 0)).first 32) ≡ false
-          → (lookup_answer t v asid store ≡ Fault Refill) × (lookup_table t v asid ≡ t)
+          → (lookup_answer t v asid store ≡ Err Refill) × (lookup_table t v asid ≡ t)
       go true s p = let r = is_shut t v asid store s in (sym r.0, sym r.1)
       go false s p = empty s (matching t.entries v asid 0) refl (ltb-false _ _ p)
 
@@ -132,7 +132,7 @@ module _ (t : Tlb) (v asid : ℕ) where
 
   -- or, where more than one matches, shuts the table down
   pub second_match_shuts : has_match_of t v asid ≡ true → hits.more ≡ true → (store : Bool)
-      → (lookup_answer t v asid store ≡ Fault Refill) × (lookup_table t v asid ≡ shut_down t)
+      → (lookup_answer t v asid store ≡ Err Refill) × (lookup_table t v asid ≡ shut_down t)
   second_match_shuts e m store =
       let r = clash t v asid store (is_open e).0 hits refl m in
       (sym r.0, sym r.1)

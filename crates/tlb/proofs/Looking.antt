@@ -1,4 +1,5 @@
 -- A lookup, by what the scan found.
+use Rattle.std.proofs.Common.{Err}
 use mathlib.Core.Path.{◌≡◌, refl, ap, sym}
 use mathlib.Core.Bool.{Bool, true, false, cond, false≢true, true≢false}
 use mathlib.Core.List.{List, [], ◌∷◌}
@@ -7,7 +8,6 @@ use native.Mathlib.Omega.{arith}
 use lib.ListN.{length}
 use Rattle.tlb.specs.declared.entries.Entry.{Entry}
 use Rattle.tlb.specs.declared.entries.TlbFault.TheVariants.{Refill}
-use Rattle.tlb.specs.declared.entries.LookupAnswer.TheVariants.{Fault}
 use Rattle.tlb.specs.declared.table.Tlb.{Tlb}
 use Rattle.tlb.specs.declared.table.Hits.{Hits}
 use Rattle.tlb.specs.Entries.{matches_of, entry_answer}
@@ -27,7 +27,7 @@ below (x ∷ es) v asid i j js e = go (matches_of x v asid) e (below es v asid (
     go false p rest = omega (arith, rest p)
 
 module _ (t : Tlb) (v : ℕ) (store : Bool) where
-  more : (l : List ℕ) → (hits_of l).more ≡ true → (answer_by t l v store ≡ Fault Refill) × (table_by t l ≡ shut_down t)
+  more : (l : List ℕ) → (hits_of l).more ≡ true → (answer_by t l v store ≡ Err Refill) × (table_by t l ≡ shut_down t)
   more [] e = absurd (false≢true e)
   more (i ∷ []) e = absurd (false≢true e)
   more (i ∷ j ∷ is) e = (refl, refl)
@@ -39,14 +39,14 @@ module _ (t : Tlb) (v : ℕ) (store : Bool) where
   one (i ∷ j ∷ is) e h = absurd (true≢false e)
 
   none : (l : List ℕ) → ((j : ℕ) (js : List ℕ) → l ≡ j ∷ js → j < 32) → (hits_of l).more ≡ false → 32 ≤ (hits_of l).first
-      → (answer_by t l v store ≡ Fault Refill) × (table_by t l ≡ t)
+      → (answer_by t l v store ≡ Err Refill) × (table_by t l ≡ t)
   none [] b e h = (refl, refl)
   none (i ∷ []) b e h = absurd (omega (arith, b i [] refl))
   none (i ∷ j ∷ is) b e h = absurd (true≢false e)
 
 -- the lookup of a table of 32 entries, whose scan gave h
 module _ (t : Tlb) (v asid : ℕ) (store : Bool) where
-  pub is_shut : t.shutdown ≡ true → (Fault Refill ≡ lookup_answer t v asid store) × (t ≡ lookup_table t v asid)
+  pub is_shut : t.shutdown ≡ true → (Err Refill ≡ lookup_answer t v asid store) × (t ≡ lookup_table t v asid)
   unfolding lookup_answer lookup_table
   is_shut e = simp e (refl, refl)
 
@@ -54,7 +54,7 @@ module _ (t : Tlb) (v asid : ℕ) (store : Bool) where
     abbrev l : List ℕ
     l = matching t.entries v asid 0
 
-    pub clash : h.more ≡ true → (Fault Refill ≡ lookup_answer t v asid store) × (shut_down t ≡ lookup_table t v asid)
+    pub clash : h.more ≡ true → (Err Refill ≡ lookup_answer t v asid store) × (shut_down t ≡ lookup_table t v asid)
     unfolding lookup_answer lookup_table
     clash e =
         let m = more t v store l (rw scanned at e) in
@@ -68,7 +68,7 @@ module _ (t : Tlb) (v asid : ℕ) (store : Bool) where
         rw scanned (simp open_table (sym m.0, sym m.1))
 
     pub nothing : length t.entries ≡ 32 → h.more ≡ false → 32 ≤ h.first
-        → (Fault Refill ≡ lookup_answer t v asid store) × (t ≡ lookup_table t v asid)
+        → (Err Refill ≡ lookup_answer t v asid store) × (t ≡ lookup_table t v asid)
     unfolding lookup_answer lookup_table
     nothing len e p =
         let m = none t v store l (λ j js q. omega (arith, below t.entries v asid 0 j js q)) (rw scanned at e) (rw scanned at p) in

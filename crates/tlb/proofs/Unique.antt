@@ -1,4 +1,5 @@
 -- No second outcome fits the contract of any public operation: shown on the contracts as the checker reads them.
+use Rattle.std.proofs.Common.{Result}
 use mathlib.Core.Path.{◌≡◌, ap₂}
 use mathlib.Core.Bool.{Bool}
 use Prim.Native.Nat.{ℕ}
@@ -6,10 +7,11 @@ use Rattle.bits.proofs.Same.{same}
 use Rattle.cop0.specs.declared.registers.Cop0.{Cop0}
 use Rattle.tlb.specs.declared.entries.PageEntry.{PageEntry}
 use Rattle.tlb.specs.declared.entries.Entry.{Entry}
-use Rattle.tlb.specs.declared.entries.LookupAnswer.{LookupAnswer}
 use Rattle.tlb.specs.declared.table.Tlb.{Tlb}
 use Rattle.tlb.specs.declared.table.Looked.{Looked}
 use Rattle.tlb.specs.declared.micro.ItlbProbed.{ItlbProbed}
+use Rattle.tlb.specs.declared.entries.Translated.{Translated}
+use Rattle.tlb.specs.declared.entries.TlbFault.{TlbFault}
 use Rattle.tlb.proofs.Answers.{lookup_one}
 use Rattle.tlb.proofs.entries.PageEntry.uncached.Reads as uncached
 use Rattle.tlb.proofs.table.Tlb.new.Reads as new
@@ -45,7 +47,7 @@ page_size_unique a r r' = same
 pub pair_size_unique : (a : ℕ × Unit {0}) (r r' : ℕ) → pair_size.Post tt a r a → pair_size.Post tt a r' a → r ≡ r'
 pair_size_unique a r r' = same
 
-abbrev looked : LookupAnswer → Tlb → Looked
+abbrev looked : Result Translated TlbFault → Tlb → Looked
 looked a t = record { answer = a; tlb = t }
 
 pub lookup_unique : (a : Tlb × (ℕ × (ℕ × (Bool × Unit {0})))) (r r' : Looked) → lookup.Post tt a r a

@@ -1,5 +1,6 @@
 -- Which entry answered: a lookup that succeeds has the number of the only entry that matches, and without the number its answer is
 -- what it was before there was one.
+use Rattle.std.proofs.Common.{Result, Ok, Err}
 use mathlib.Core.Path.{◌≡◌, refl, ap, sym, ◌∙◌, subst}
 use mathlib.Core.Bool.{Bool, true, false, cond, false≢true}
 use mathlib.Core.List.{List, [], ◌∷◌}
@@ -11,8 +12,6 @@ use Rattle.tlb.specs.declared.entries.Entry.{Entry}
 use Rattle.tlb.specs.declared.entries.Translated.{Translated}
 use Rattle.tlb.specs.declared.entries.TlbFault.{TlbFault}
 use Rattle.tlb.specs.declared.entries.TlbFault.TheVariants.{Refill, Invalid, Modified}
-use Rattle.tlb.specs.declared.entries.LookupAnswer.{LookupAnswer}
-use Rattle.tlb.specs.declared.entries.LookupAnswer.TheVariants.{Found, Fault}
 use Rattle.tlb.specs.declared.table.Tlb.{Tlb}
 use Rattle.tlb.specs.declared.table.Looked.{Looked}
 use Rattle.tlb.specs.Entries.{matches_of, page_size_of, half_of, translated, half_answer, entry_answer, told_lookup}
@@ -24,13 +23,13 @@ use Rattle.tlb.proofs.OnlyMatch.{only_one}
 use Rattle.tlb.proofs.table.Tlb.lookup.Reads as lookup
 
 -- what holds of a page that may be reached and of the two faults holds of a half
-by_half : (R : LookupAnswer → Told → Type 0) (i : ℕ) (p : PageEntry) (m v : ℕ) (store : Bool) → R (translated i p m v) (former_page p m v)
-    → ((f : TlbFault) → R (Fault f) (fault f)) → R (half_answer i p m v store) (former_half p m v store)
+by_half : (R : Result Translated TlbFault → Told → Type 0) (i : ℕ) (p : PageEntry) (m v : ℕ) (store : Bool) → R (translated i p m v) (former_page p m v)
+    → ((f : TlbFault) → R (Err f) (fault f)) → R (half_answer i p m v store) (former_half p m v store)
 unfolding half_answer
 by_half R i p m v store given faulted = go p.valid store p.dirty
   where
     go : (b s d : Bool)
-        → R (cond b (cond s (cond d (translated i p m v) (Fault Modified)) (translated i p m v)) (Fault Invalid))
+        → R (cond b (cond s (cond d (translated i p m v) (Err Modified)) (translated i p m v)) (Err Invalid))
         (cond b (cond s (cond d (former_page p m v) (fault Modified)) (former_page p m v)) (fault Invalid))
     go true true true = given
     go true true false = faulted Modified
@@ -57,18 +56,18 @@ lookup_former t v asid store = go t.shutdown (by_former t l v store)
     l = matching t.entries v asid 0
 
     go : (b : Bool) → unnumbered (told_lookup (answer_by t l v store)) ≡ former_by t l v store
-        → unnumbered (told_lookup (cond b (Fault Refill) (answer_by t l v store))) ≡ cond b (fault Refill) (former_by t l v store)
+        → unnumbered (told_lookup (cond b (Err Refill) (answer_by t l v store))) ≡ cond b (fault Refill) (former_by t l v store)
     go true e = refl
     go false e = e
 
 -- an answer's number, where it has one
-abbrev number_or : ℕ → LookupAnswer → ℕ
-number_or i (Found x) = x.entry
-number_or i (Fault f) = i
+abbrev number_or : ℕ → Result Translated TlbFault → ℕ
+number_or i (Ok x) = x.entry
+number_or i (Err f) = i
 
-abbrev is_found : LookupAnswer → Bool
-is_found (Found x) = true
-is_found (Fault f) = false
+abbrev is_found : Result Translated TlbFault → Bool
+is_found (Ok x) = true
+is_found (Err f) = false
 
 entry_number : (i : ℕ) (e : Entry) (v : ℕ) (store : Bool) → number_or i (entry_answer i e v store) ≡ i
 unfolding entry_answer
@@ -83,12 +82,12 @@ pub record Only (t : Tlb) (v asid i : ℕ) : Type 0 where
 
 -- of a table of 32 entries, as every one that the type holds is
 module _ (t : Tlb) (long : length t.entries ≡ 32) (v asid : ℕ) (store : Bool) (x : Translated) where
-  pub found_only : lookup_answer t v asid store ≡ Found x → Only t v asid x.entry
+  pub found_only : lookup_answer t v asid store ≡ Ok x → Only t v asid x.entry
   unfolding lookup_answer
   found_only e = go t.shutdown (matching t.entries v asid 0) refl e
     where
       go : (b : Bool) (l : List ℕ) → matching t.entries v asid 0 ≡ l
-          → cond b (Fault Refill) (answer_by t l v store) ≡ Found x → Only t v asid x.entry
+          → cond b (Err Refill) (answer_by t l v store) ≡ Ok x → Only t v asid x.entry
       go true l q f = absurd (false≢true (ap is_found f))
       go false [] q f = absurd (false≢true (ap is_found f))
       go false (i ∷ []) q f =
@@ -102,6 +101,6 @@ module _ (a : Tlb × (ℕ × (ℕ × (Bool × Unit {0})))) (r : Looked) (p : loo
   pub call_former : unnumbered (told_lookup r.answer) ≡ former_lookup a.0 a.1.0 a.1.1.0 a.1.1.1.0
   call_former = ap unnumbered p.0 ∙ lookup_former a.0 a.1.0 a.1.1.0 a.1.1.1.0
 
-  pub call_only : length a.0.entries ≡ 32 → (x : Translated) → r.answer ≡ Found x → Only a.0 a.1.0 a.1.1.0 x.entry
+  pub call_only : length a.0.entries ≡ 32 → (x : Translated) → r.answer ≡ Ok x → Only a.0 a.1.0 a.1.1.0 x.entry
   call_only long x e =
       found_only a.0 long a.1.0 a.1.1.0 a.1.1.1.0 x (sym (lookup_one r.answer _ p.0) ∙ e)

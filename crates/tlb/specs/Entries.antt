@@ -1,5 +1,5 @@
 -- One entry: when it matches, its page sizes and what its halves answer (5.1, 5.4.9; figure 5-10, tables 5-6 and 5-7).
-use Rattle.std.specs.Prelude.{Bool, cond, ◌&&◌, ◌||◌, [], ◌∷◌, ℕ, ◌+◌, ◌-◌, ◌*◌, ◌/◌, ◌^◌, eqb}
+use Rattle.std.specs.Prelude.{Bool, cond, ◌&&◌, ◌||◌, [], ◌∷◌, ℕ, ◌+◌, ◌-◌, ◌*◌, ◌/◌, ◌^◌, eqb, Result, Ok, Err}
 use Rattle.std.specs.Int.Bits.{bit_and, bit_or}
 use Rattle.bits.specs.Told.{Told, answered}
 use Rattle.bits.specs.Field.{field_of, bit}
@@ -9,8 +9,7 @@ use Rattle.tlb.specs.declared.entries.PageEntry.{PageEntry}
 use Rattle.tlb.specs.declared.entries.Entry.{Entry}
 use Rattle.tlb.specs.declared.entries.TlbFault.{TlbFault}
 use Rattle.tlb.specs.declared.entries.TlbFault.TheVariants.{Refill, Invalid, Modified}
-use Rattle.tlb.specs.declared.entries.LookupAnswer.{LookupAnswer}
-use Rattle.tlb.specs.declared.entries.LookupAnswer.TheVariants.{Found, Fault}
+use Rattle.tlb.specs.declared.entries.Translated.{Translated}
 
 -- address bits 39..13 in place, with the mask's bits cleared
 abbrev pub vpn2_of : ℕ → ℕ → ℕ
@@ -41,18 +40,18 @@ abbrev pub physical_of : ℕ → ℕ → ℕ → ℕ
 physical_of pfn m v = low32_of (merged m v (pfn * 4096))
 
 -- of a half of entry i
-abbrev pub translated : ℕ → PageEntry → ℕ → ℕ → LookupAnswer
-translated i p m v = Found (record { addr = physical_of p.pfn m v; uncached = uncached_of p; entry = i })
+abbrev pub translated : ℕ → PageEntry → ℕ → ℕ → Result Translated TlbFault
+translated i p m v = Ok (record { addr = physical_of p.pfn m v; uncached = uncached_of p; entry = i })
 
 -- not valid: Invalid; a store to a half that is not dirty: Modified; else what is given
-abbrev pub permitted : PageEntry → Bool → LookupAnswer → LookupAnswer
-permitted p store given = cond p.valid (cond store (cond p.dirty given (Fault Modified)) given) (Fault Invalid)
+abbrev pub permitted : PageEntry → Bool → Result Translated TlbFault → Result Translated TlbFault
+permitted p store given = cond p.valid (cond store (cond p.dirty given (Err Modified)) given) (Err Invalid)
 
-unfoldable pub half_answer : ℕ → PageEntry → ℕ → ℕ → Bool → LookupAnswer
+unfoldable pub half_answer : ℕ → PageEntry → ℕ → ℕ → Bool → Result Translated TlbFault
 half_answer i p m v store = permitted p store (translated i p m v)
 
 -- of entry i, which is e
-unfoldable pub entry_answer : ℕ → Entry → ℕ → Bool → LookupAnswer
+unfoldable pub entry_answer : ℕ → Entry → ℕ → Bool → Result Translated TlbFault
 entry_answer i e v store = half_answer i (half_of e v) (page_size_of e.page_mask - 1) v store
 
 -- the number of each fault
@@ -62,6 +61,6 @@ fault_number Invalid = 1
 fault_number Modified = 2
 
 -- the values of each answer: the address, whether it is uncached and the entry's number, or the fault's number
-abbrev pub told_lookup : LookupAnswer → Told
-told_lookup (Found t) = answered (t.addr ∷ bit t.uncached ∷ t.entry ∷ [])
-told_lookup (Fault f) = answered (fault_number f ∷ [])
+abbrev pub told_lookup : Result Translated TlbFault → Told
+told_lookup (Ok t) = answered (t.addr ∷ bit t.uncached ∷ t.entry ∷ [])
+told_lookup (Err f) = answered (fault_number f ∷ [])

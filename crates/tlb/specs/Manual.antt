@@ -1,10 +1,10 @@
 -- The manual's reading of an entry that has one of its page sizes (5.1; table 5-7): 4, 16, 64 and 256 KiB, 1, 4 and 16 MiB.
-use Rattle.std.specs.Prelude.{Bool, cond, ◌&&◌, ◌||◌, ℕ, ◌+◌, ◌-◌, ◌*◌, ◌/◌, ◌%◌, ◌^◌, eqb, leb, ltb}
+use Rattle.std.specs.Prelude.{Bool, cond, ◌&&◌, ◌||◌, ℕ, ◌+◌, ◌-◌, ◌*◌, ◌/◌, ◌%◌, ◌^◌, eqb, leb, ltb, Result, Ok}
 use Rattle.bits.specs.Field.{field_of}
 use Rattle.tlb.specs.declared.entries.PageEntry.{PageEntry}
 use Rattle.tlb.specs.declared.entries.Entry.{Entry}
-use Rattle.tlb.specs.declared.entries.LookupAnswer.{LookupAnswer}
-use Rattle.tlb.specs.declared.entries.LookupAnswer.TheVariants.{Found}
+use Rattle.tlb.specs.declared.entries.Translated.{Translated}
+use Rattle.tlb.specs.declared.entries.TlbFault.{TlbFault}
 use Rattle.tlb.specs.Entries.{uncached_of, permitted}
 use Rattle.tlb.specs.Moves.{page_of, global_of}
 
@@ -32,10 +32,10 @@ abbrev pub address_at : ℕ → ℕ → ℕ → ℕ
 address_at k pfn v = pfn * 4096 / size_at k * size_at k + v % size_at k
 
 -- of a half of entry i
-abbrev pub translated_at : ℕ → ℕ → PageEntry → ℕ → LookupAnswer
-translated_at k i p v = Found (record { addr = address_at k p.pfn v; uncached = uncached_of p; entry = i })
+abbrev pub translated_at : ℕ → ℕ → PageEntry → ℕ → Result Translated TlbFault
+translated_at k i p v = Ok (record { addr = address_at k p.pfn v; uncached = uncached_of p; entry = i })
 
-abbrev pub page_answer_at : ℕ → ℕ → PageEntry → ℕ → Bool → LookupAnswer
+abbrev pub page_answer_at : ℕ → ℕ → PageEntry → ℕ → Bool → Result Translated TlbFault
 page_answer_at k i p v store = permitted p store (translated_at k i p v)
 
 -- the pair that an address lies in: its base, a multiple of two pages

@@ -36,7 +36,7 @@ pub struct Entry {
 }
 
 // Why a lookup failed.
-#[derive(Clone, Copy)]
+#[derive(Clone, Copy, PartialEq, Eq)]
 pub enum TlbFault {
     // No entry matched.
     Refill,
@@ -55,12 +55,6 @@ pub struct Translated {
     pub entry: u8,
 }
 
-#[derive(Clone, Copy)]
-pub enum LookupAnswer {
-    Found(Translated),
-    Fault(TlbFault),
-}
-
 impl PageEntry {
     pub fn uncached(self) -> bool
         ensures { result ≡ uncached_of self }
@@ -69,28 +63,28 @@ impl PageEntry {
     }
 
     // What a half of entry `entry` answers, where `offset` has the bits of an address within the page.
-    fn answer(self, entry: u8, offset: u64, vaddr: u64, store: bool) -> LookupAnswer
+    fn answer(self, entry: u8, offset: u64, vaddr: u64, store: bool) -> Result<Translated, TlbFault>
         ensures { result ≡ half_answer entry self offset vaddr store }
     {
         if !self.valid {
-            return LookupAnswer::Fault(TlbFault::Invalid);
+            return Err(TlbFault::Invalid);
         }
         if !store {
             return self.found(entry, offset, vaddr);
         }
         if !self.dirty {
-            return LookupAnswer::Fault(TlbFault::Modified);
+            return Err(TlbFault::Modified);
         }
         self.found(entry, offset, vaddr)
     }
 
     // The frame number counts 4 KiB always, so a large page's frame has low bits that give way to the offset.
-    fn found(self, entry: u8, offset: u64, vaddr: u64) -> LookupAnswer
+    fn found(self, entry: u8, offset: u64, vaddr: u64) -> Result<Translated, TlbFault>
         ensures { result ≡ translated entry self offset vaddr }
     {
         let addr = bits::low32(bits::merge(offset, vaddr, self.pfn as u64 * 4096));
         let uncached = self.uncached();
-        LookupAnswer::Found(Translated {
+        Ok(Translated {
             addr,
             uncached,
             entry,
@@ -128,7 +122,7 @@ impl Entry {
     }
 
     // What the one matching entry answers. An entry does not know its number, so the table says it.
-    pub(crate) fn answer(self, entry: u8, vaddr: u64, store: bool) -> LookupAnswer
+    pub(crate) fn answer(self, entry: u8, vaddr: u64, store: bool) -> Result<Translated, TlbFault>
         ensures { result ≡ entry_answer entry self vaddr store }
     {
         let half = self.half(vaddr);

@@ -6,7 +6,7 @@ mod micro;
 mod moves;
 mod table;
 
-pub use entries::{Entry, LookupAnswer, PageEntry, TlbFault, Translated};
+pub use entries::{Entry, PageEntry, TlbFault, Translated};
 pub use micro::ItlbProbed;
 pub use moves::{entry_from, page_from};
 pub use table::{Looked, Tlb};

@@ -1,10 +1,10 @@
 // The table of 32 entries, and the lookup.
-ghost use Rattle.std.specs.Prelude.{◌≡◌, ◌%◌, ◌<◌};
+ghost use Rattle.std.specs.Prelude.{◌≡◌, ◌%◌, ◌<◌, Err};
 ghost use Rattle.tlb.specs.Entries.{pair_size_of, page_size_of, told_lookup};
 ghost use Rattle.tlb.specs.Table.{fresh_entry, fresh_table, entry_at, matching, hits_of};
 ghost use Rattle.tlb.specs.Lookup.{lookup_answer, lookup_table, is_shutdown_of};
 
-use crate::entries::{Entry, LookupAnswer, PageEntry, TlbFault};
+use crate::entries::{Entry, PageEntry, TlbFault, Translated};
 
 #[derive(Clone, Copy)]
 pub struct Tlb {
@@ -21,7 +21,7 @@ pub struct Tlb {
 // A lookup's answer, and the table after it.
 #[derive(Clone, Copy)]
 pub struct Looked {
-    pub answer: LookupAnswer,
+    pub answer: Result<Translated, TlbFault>,
     pub tlb: Tlb,
 }
 
@@ -103,10 +103,10 @@ impl Tlb {
     }
 
     fn fault(self) -> Looked
-        ensures { (result.answer ≡ LookupAnswer.Fault TlbFault.Refill) × (result.tlb ≡ self) }
+        ensures { (result.answer ≡ Err TlbFault.Refill) × (result.tlb ≡ self) }
     {
         Looked {
-            answer: LookupAnswer::Fault(TlbFault::Refill),
+            answer: Err(TlbFault::Refill),
             tlb: self,
         }
     }
