@@ -1,4 +1,5 @@
 -- The numbers and values of answers are one-to-one: each has the answer that it came from.
+use Rattle.std.proofs.Common.{Result, Ok, Err}
 use mathlib.Core.Path.{◌≡◌, refl, ap}
 use mathlib.Core.Bool.{cond}
 use mathlib.Core.List.{List, [], ◌∷◌}
@@ -11,16 +12,16 @@ use Rattle.bits.proofs.FieldLaws.{bit_undone}
 use Rattle.tlb.specs.declared.entries.TlbFault.TheVariants as fault
 use Rattle.addr.specs.declared.access.Mode.{Mode}
 use Rattle.addr.specs.declared.access.Mode.TheVariants.{Kernel, Supervisor, User}
-use Rattle.addr.specs.declared.access.AccessAnswer.{AccessAnswer}
-use Rattle.addr.specs.declared.access.AccessAnswer.TheVariants.{Of, Refused}
 use Rattle.addr.specs.declared.segments.Cached.{Cached}
 use Rattle.addr.specs.declared.segments.Cached.TheVariants.{Yes, No}
 use Rattle.addr.specs.declared.segments.Segment.{Segment}
 use Rattle.addr.specs.declared.segments.Segment.TheVariants.{Direct, Mapped, Invalid}
 use Rattle.addr.specs.declared.translate.TranslateError.{TranslateError}
 use Rattle.addr.specs.declared.translate.TranslateError.TheVariants.{Address, Tlb}
-use Rattle.addr.specs.declared.translate.TranslateAnswer.{TranslateAnswer}
-use Rattle.addr.specs.declared.translate.TranslateAnswer.TheVariants.{At, Failed}
+use Rattle.addr.specs.declared.translate.Physical.{Physical}
+use Rattle.addr.specs.declared.refusal.Refusal.{Refusal}
+use Rattle.addr.specs.declared.refusal.Refusal.TheVariants.{NoMode}
+use Rattle.addr.specs.declared.access.Access.{Access}
 use Rattle.addr.specs.Answers.{mode_number, cached_number, error_number, told_access, told_segment, told_translate}
 use Rattle.tlb.proofs.Answers.{fault_of}
 
@@ -32,15 +33,15 @@ mode_undone Kernel = refl
 mode_undone Supervisor = refl
 mode_undone User = refl
 
-abbrev access_at : ℕ → List ℕ → AccessAnswer
-access_at n [] = Refused n
-access_at n (m ∷ vs) = Of (record { mode = mode_at m; wide = eqb (get_or vs 0 0) 1; erl = eqb (get_or vs 1 0) 1 })
+abbrev access_at : ℕ → List ℕ → Result Access Refusal
+access_at n [] = Err NoMode
+access_at n (m ∷ vs) = Ok (record { mode = mode_at m; wide = eqb (get_or vs 0 0) 1; erl = eqb (get_or vs 1 0) 1 })
 
-access_undone : (a : AccessAnswer) → access_at (told_access a).number (told_access a).values ≡ a
-access_undone (Of a) = rw (mode_undone a.mode, bit_undone a.wide, bit_undone a.erl)
-access_undone (Refused n) = refl
+access_undone : (a : Result Access Refusal) → access_at (told_access a).number (told_access a).values ≡ a
+access_undone (Ok a) = rw (mode_undone a.mode, bit_undone a.wide, bit_undone a.erl)
+access_undone (Err NoMode) = refl
 
-pub access_one : (a a' : AccessAnswer) → told_access a ≡ told_access a' → a ≡ a'
+pub access_one : (a a' : Result Access Refusal) → told_access a ≡ told_access a' → a ≡ a'
 access_one = one_to_one told_access (λ (t : Told). access_at t.number t.values) access_undone
 
 abbrev pub cached_at : ℕ → Cached
@@ -72,14 +73,14 @@ error_undone (Tlb fault.Refill) = refl
 error_undone (Tlb fault.Invalid) = refl
 error_undone (Tlb fault.Modified) = refl
 
-abbrev pub translate_at : List ℕ → TranslateAnswer
-translate_at [] = Failed Address
-translate_at (n ∷ []) = Failed (error_at n)
-translate_at (p ∷ c ∷ vs) = At (record { addr = p; cached = cached_at c; entry = get_or vs 0 0 })
+abbrev pub translate_at : List ℕ → Result Physical TranslateError
+translate_at [] = Err Address
+translate_at (n ∷ []) = Err (error_at n)
+translate_at (p ∷ c ∷ vs) = Ok (record { addr = p; cached = cached_at c; entry = get_or vs 0 0 })
 
-pub translate_undone : (a : TranslateAnswer) → translate_at (told_translate a).values ≡ a
-translate_undone (At p) = ap (λ (c : Cached). At (record { addr = p.addr; cached = c; entry = p.entry })) (cached_undone p.cached)
-translate_undone (Failed e) = ap Failed (error_undone e)
+pub translate_undone : (a : Result Physical TranslateError) → translate_at (told_translate a).values ≡ a
+translate_undone (Ok p) = ap (λ (c : Cached). Ok (record { addr = p.addr; cached = c; entry = p.entry })) (cached_undone p.cached)
+translate_undone (Err e) = ap Err (error_undone e)
 
-pub translate_one : (a a' : TranslateAnswer) → told_translate a ≡ told_translate a' → a ≡ a'
+pub translate_one : (a a' : Result Physical TranslateError) → told_translate a ≡ told_translate a' → a ≡ a'
 translate_one = one_to_one told_translate (λ (t : Told). translate_at t.values) translate_undone

@@ -1,6 +1,7 @@
 -- The access read from Status. It is refused exactly where KSU is 3 and EXL and ERL are 0; it is the kernel's, with KX for its width, by
 -- EXL, by ERL and by KSU; where it is not refused, it is what the Rust original's pipeline makes of Status. So the handler of a reset is
 -- reached while ERL is 1, whatever KSU asks for.
+use Rattle.std.proofs.Common.{Result, Ok, Err}
 use mathlib.Core.Path.{◌≡◌, refl, ap, sym, ◌∙◌}
 use mathlib.Core.Bool.{Bool, true, false, ◌||◌, cond, or-true, false≢true}
 use mathlib.Core.List.{[]}
@@ -18,10 +19,11 @@ use Rattle.tlb.specs.declared.table.Tlb.{Tlb}
 use Rattle.addr.specs.declared.access.Mode.{Mode}
 use Rattle.addr.specs.declared.access.Mode.TheVariants.{Kernel, Supervisor, User}
 use Rattle.addr.specs.declared.access.Access.{Access}
-use Rattle.addr.specs.declared.access.AccessAnswer.{AccessAnswer}
-use Rattle.addr.specs.declared.access.AccessAnswer.TheVariants.{Of, Refused}
 use Rattle.addr.specs.declared.segments.Cached.TheVariants.{No}
 use Rattle.addr.specs.declared.translate.Translation.{Translation}
+use Rattle.addr.specs.declared.refusal.Refusal.{Refusal}
+use Rattle.addr.specs.declared.refusal.Refusal.TheVariants.{NoMode}
+use Rattle.addr.specs.Answers.{refusal_number}
 use Rattle.addr.specs.Answers.{told_access, told_translate}
 use Rattle.addr.specs.Access.{in_mode, is_kernel_of, access_of, names_none}
 use Rattle.addr.specs.Pipeline.{pipeline_mode, width_bit, pipeline_access, pipeline_told}
@@ -106,12 +108,12 @@ refused_only_there s n e = go (names_none s) refl (sym (pipeline_agrees s) ∙ e
     go false t q = absurd (false≢true (ap no_values q))
 
 -- the same of a call, by its contract
-module _ (a : ℕ × Unit {0}) (r : AccessAnswer) (p : from_status.Post tt a r a) where
-  pub call_refused : names_none a.0 ≡ true → r ≡ Refused 4
-  call_refused none = access_one r (Refused 4) (p ∙ refused_there a.0 none)
+module _ (a : ℕ × Unit {0}) (r : Result Access Refusal) (p : from_status.Post tt a r a) where
+  pub call_refused : names_none a.0 ≡ true → r ≡ Err NoMode
+  call_refused none = access_one r (Err NoMode) (p ∙ refused_there a.0 none)
 
-  pub call_refused_only : (n : ℕ) → r ≡ Refused n → (names_none a.0 ≡ true) × (n ≡ 4)
-  call_refused_only n e = refused_only_there a.0 n (sym p ∙ ap told_access e)
+  pub call_refused_only : (n : Refusal) → r ≡ Err n → (names_none a.0 ≡ true) × (refusal_number n ≡ 4)
+  call_refused_only n e = refused_only_there a.0 (refusal_number n) (sym p ∙ ap told_access e)
 
 -- where a console starts after a reset (6.4.4)
 abbrev pub reset_handler : ℕ
@@ -127,7 +129,7 @@ module _ (t : Tlb) (asid : ℕ) (store : Bool) where
   by_kernel false true = refl
   by_kernel false false = refl
 
-  pub reset_handler_reached : (s : ℕ) → field_of s 2 2 ≡ 1 → (a : Access) → told_access (Of a) ≡ access_of s
+  pub reset_handler_reached : (s : ℕ) → field_of s 2 2 ≡ 1 → (a : Access) → told_access (Ok a) ≡ access_of s
       → translate_answer t reset_handler asid store a ≡ reached 0x1FC0_0000 No 32
   reset_handler_reached s erl a e =
       ap (λ (m : Mode). translate_answer t reset_handler asid store (record { mode = m; wide = a.wide; erl = a.erl }))
@@ -135,7 +137,7 @@ module _ (t : Tlb) (asid : ℕ) (store : Bool) where
       ∙ by_kernel a.wide a.erl
 
   -- the same of two calls, by their contracts: what Status asks for, and the fetch by it
-  pub boot_goes_on : (s : ℕ) → field_of s 2 2 ≡ 1 → (a : Access) (r : Translation) → from_status.Post tt (s, tt) (Of a) (s, tt)
+  pub boot_goes_on : (s : ℕ) → field_of s 2 2 ≡ 1 → (a : Access) (r : Translation) → from_status.Post tt (s, tt) (Ok a) (s, tt)
       → translate_via.Post tt (t, (reset_handler, (asid, (store, (a, tt))))) r (t, (reset_handler, (asid, (store, (a, tt)))))
       → r.answer ≡ reached 0x1FC0_0000 No 32
   boot_goes_on s erl a r p q =

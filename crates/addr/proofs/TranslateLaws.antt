@@ -1,15 +1,17 @@
 -- From a segment and a lookup to a translation.
+use Rattle.std.proofs.Common.{Result}
 use mathlib.Core.Path.{◌≡◌, refl}
 use mathlib.Core.Bool.{Bool}
 use Prim.Native.Nat.{ℕ}
 use Rattle.tlb.specs.declared.table.Tlb.{Tlb}
 use Rattle.tlb.specs.declared.table.Looked.{Looked}
-use Rattle.tlb.specs.declared.entries.LookupAnswer.{LookupAnswer}
 use Rattle.tlb.specs.Entries.{told_lookup}
 use Rattle.tlb.specs.Lookup.{lookup_answer, lookup_table}
 use Rattle.addr.specs.declared.access.Access.{Access}
 use Rattle.addr.specs.declared.segments.Segment.{Segment}
 use Rattle.addr.specs.declared.segments.Segment.TheVariants.{Direct, Mapped, Invalid}
+use Rattle.tlb.specs.declared.entries.Translated.{Translated}
+use Rattle.tlb.specs.declared.entries.TlbFault.{TlbFault}
 use Rattle.addr.specs.Answers.{told_segment, told_translate}
 use Rattle.addr.specs.Segments.{segment_of}
 use Rattle.addr.specs.Translate.{mapped_answer, segment_answer, segment_table, translate_answer, translate_table}
@@ -29,7 +31,7 @@ module _ (t : Tlb) (v asid : ℕ) (s : Bool) (a : Access) (r : Segment) (er : to
   pub by_lookup : r ≡ Mapped
       → (l : Looked)
       → (told_lookup l.answer ≡ told_lookup (lookup_answer t v asid s)) × (l.tlb ≡ lookup_table t v asid)
-      → (x : LookupAnswer)
+      → (x : Result Translated TlbFault)
       → l.answer ≡ x
       → (told_translate (mapped_answer x) ≡ told_translate (translate_answer t v asid s a)) × (l.tlb ≡ translate_table t v asid a)
   by_lookup e l el x ex = rw (el.1, ← ex, lookup_one l.answer (lookup_answer t v asid s) el.0) (by_segment Mapped e)

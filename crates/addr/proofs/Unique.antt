@@ -1,14 +1,16 @@
 -- No second outcome fits the contract of any public operation: shown on the contracts as the checker reads them.
+use Rattle.std.proofs.Common.{Result}
 use mathlib.Core.Path.{◌≡◌, ap₂}
 use mathlib.Core.Bool.{Bool}
 use Prim.Native.Nat.{ℕ}
 use Rattle.bits.proofs.Same.{same}
 use Rattle.tlb.specs.declared.table.Tlb.{Tlb}
 use Rattle.addr.specs.declared.access.Access.{Access}
-use Rattle.addr.specs.declared.access.AccessAnswer.{AccessAnswer}
 use Rattle.addr.specs.declared.segments.Segment.{Segment}
-use Rattle.addr.specs.declared.translate.TranslateAnswer.{TranslateAnswer}
 use Rattle.addr.specs.declared.translate.Translation.{Translation}
+use Rattle.addr.specs.declared.translate.Physical.{Physical}
+use Rattle.addr.specs.declared.translate.TranslateError.{TranslateError}
+use Rattle.addr.specs.declared.refusal.Refusal.{Refusal}
 use Rattle.addr.proofs.Answers.{access_one, segment_one, translate_one}
 use Rattle.addr.proofs.access.Access.kernel.Reads as kernel
 use Rattle.addr.proofs.access.Access.from_status.Reads as from_status
@@ -16,13 +18,13 @@ use Rattle.addr.proofs.access.Access.segment.Reads as segment
 use Rattle.addr.proofs.segments.within.Reads as within
 use Rattle.addr.proofs.translate.translate_via.Reads as translate_via
 
-abbrev made : TranslateAnswer → Tlb → Translation
+abbrev made : Result Physical TranslateError → Tlb → Translation
 made a t = record { answer = a; tlb = t }
 
 pub kernel_unique : (a : Unit {0}) (r r' : Access) → kernel.Post tt a r a → kernel.Post tt a r' a → r ≡ r'
 kernel_unique a r r' = same
 
-pub from_status_unique : (a : ℕ × Unit {0}) (r r' : AccessAnswer) → from_status.Post tt a r a
+pub from_status_unique : (a : ℕ × Unit {0}) (r r' : Result Access Refusal) → from_status.Post tt a r a
     → from_status.Post tt a r' a → r ≡ r'
 from_status_unique a r r' p q = access_one r r' (same p q)
 

@@ -2,9 +2,11 @@
 #![tactic(auto)]
 
 mod access;
+mod refusal;
 mod segments;
 mod translate;
 
-pub use access::{Access, AccessAnswer, Mode};
+pub use access::{Access, Mode};
+pub use refusal::Refusal;
 pub use segments::{Cached, Segment, within};
-pub use translate::{Physical, TranslateAnswer, TranslateError, Translation, translate_via};
+pub use translate::{Physical, TranslateError, Translation, translate_via};

@@ -7,7 +7,7 @@ use crate::access::{Access, Mode};
 
 // Whether an access goes through the caches. The segment decides it, and it cannot be told from a physical address later:
 // KSEG0 and KSEG1 have both become the same number.
-#[derive(Clone, Copy)]
+#[derive(Clone, Copy, PartialEq, Eq)]
 pub enum Cached {
     Yes,
     No,

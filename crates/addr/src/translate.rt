@@ -1,11 +1,11 @@
 // Translation: directly where the segment says so, else by the TLB.
 ghost use Rattle.std.specs.Prelude.{◌≡◌};
 ghost use Rattle.addr.specs.Answers.{told_translate};
-ghost use Rattle.addr.specs.Translate.{Carries, translate_answer, translate_table};
+ghost use Rattle.addr.specs.Translate.{by_entry, translate_answer, translate_table};
 
 use crate::access::Access;
 use crate::segments::{Cached, Segment};
-use tlb::{LookupAnswer, Tlb, TlbFault};
+use tlb::{Tlb, TlbFault, Translated};
 
 #[derive(Clone, Copy)]
 pub struct Physical {
@@ -16,7 +16,7 @@ pub struct Physical {
 }
 
 // Why a translation failed. Two cases, since they raise different exceptions from different vectors.
-#[derive(Clone, Copy)]
+#[derive(Clone, Copy, PartialEq, Eq)]
 pub enum TranslateError {
     // Not an address of the access's mode.
     Address,
@@ -24,15 +24,10 @@ pub enum TranslateError {
     Tlb(TlbFault),
 }
 
-#[derive(Clone, Copy)]
-pub enum TranslateAnswer {
-    At(Physical),
-    Failed(TranslateError),
-}
-
+// What a translation answers, and the table after it.
 #[derive(Clone, Copy)]
 pub struct Translation {
-    pub answer: TranslateAnswer,
+    pub answer: Result<Physical, TranslateError>,
     pub tlb: Tlb,
 }
 
@@ -43,7 +38,7 @@ pub fn translate_via(tlb: Tlb, vaddr: u64, asid: u8, store: bool, access: Access
 {
     match access.segment(vaddr) {
         Segment::Direct { addr, cached } => Translation {
-            answer: TranslateAnswer::At(Physical {
+            answer: Ok(Physical {
                 addr,
                 cached,
                 entry: 32,
@@ -51,43 +46,38 @@ pub fn translate_via(tlb: Tlb, vaddr: u64, asid: u8, store: bool, access: Access
             tlb,
         },
         Segment::Invalid => Translation {
-            answer: TranslateAnswer::Failed(TranslateError::Address),
+            answer: Err(TranslateError::Address),
             tlb,
         },
         Segment::Mapped => {
             let looked = tlb.lookup(vaddr, asid, store);
-            let answer = looked.answer;
             let after = looked.tlb;
-            let LookupAnswer::Found(found) = answer else {
+            let Ok(found) = looked.answer else {
                 return Translation {
-                    answer: TranslateAnswer::Failed(TranslateError::Tlb(fault_of(answer))),
+                    answer: Err(TranslateError::Tlb(looked.answer.unwrap_err())),
                     tlb: after,
                 };
             };
-            // The entry's C field decides whether a mapped page is cached.
-            let cached = if found.uncached {
-                Cached::No
-            } else {
-                Cached::Yes
-            };
             Translation {
-                answer: TranslateAnswer::At(Physical {
-                    addr: found.addr,
-                    cached,
-                    entry: found.entry,
-                }),
+                answer: Ok(by_entry(found)),
                 tlb: after,
             }
         }
     }
 }
 
-// The fault that an answer carries. Only an answer that carries one is asked.
-fn fault_of(answer: LookupAnswer) -> TlbFault
-    ensures { Carries answer result }
+// An address that an entry gave. Its C field decides whether a mapped page is cached.
+fn by_entry(found: Translated) -> Physical
+    ensures { result ≡ by_entry found }
 {
-    match answer {
-        LookupAnswer::Fault(fault) => fault,
-        LookupAnswer::Found(_) => TlbFault::Refill,
+    let cached = if found.uncached {
+        Cached::No
+    } else {
+        Cached::Yes
+    };
+    Physical {
+        addr: found.addr,
+        cached,
+        entry: found.entry,
     }
 }
