@@ -77,7 +77,7 @@ pub fn epc(pc: u64, in_delay_slot: bool) -> u64
     ensures { result ≡ epc_of pc in_delay_slot }
 {
     if in_delay_slot {
-        return std::num::wrapping_sub_u64(pc, 4);
+        return pc.wrapping_sub(4);
     }
     pc
 }

@@ -91,18 +91,18 @@ pub fn vector_kind_of(exc: Exception) -> VectorKind
             }
             VectorKind::TlbRefill
         }
-        Exception::Interrupt => VectorKind::General,
-        Exception::AddressError { .. } => VectorKind::General,
-        Exception::Overflow => VectorKind::General,
-        Exception::Syscall => VectorKind::General,
-        Exception::Breakpoint => VectorKind::General,
-        Exception::Trap => VectorKind::General,
-        Exception::ReservedInstruction => VectorKind::General,
-        Exception::CoprocessorReserved { .. } => VectorKind::General,
-        Exception::CoprocessorUnusable { .. } => VectorKind::General,
-        Exception::TlbInvalid { .. } => VectorKind::General,
-        Exception::TlbModified => VectorKind::General,
-        Exception::FloatingPoint => VectorKind::General,
+        Exception::Interrupt
+        | Exception::AddressError { .. }
+        | Exception::Overflow
+        | Exception::Syscall
+        | Exception::Breakpoint
+        | Exception::Trap
+        | Exception::ReservedInstruction
+        | Exception::CoprocessorReserved { .. }
+        | Exception::CoprocessorUnusable { .. }
+        | Exception::TlbInvalid { .. }
+        | Exception::TlbModified
+        | Exception::FloatingPoint => VectorKind::General,
     }
 }
 
@@ -111,20 +111,20 @@ pub fn writes_bad_vaddr(exc: Exception) -> bool
     ensures { result ≡ writes_bad_vaddr_of exc }
 {
     match exc {
-        Exception::Interrupt => false,
-        Exception::AddressError { .. } => true,
-        Exception::Overflow => false,
-        Exception::Syscall => false,
-        Exception::Breakpoint => false,
-        Exception::Trap => false,
-        Exception::ReservedInstruction => false,
-        Exception::CoprocessorReserved { .. } => false,
-        Exception::CoprocessorUnusable { .. } => false,
-        Exception::Nmi => false,
-        Exception::TlbRefill { .. } => true,
-        Exception::TlbInvalid { .. } => true,
-        Exception::TlbModified => true,
-        Exception::FloatingPoint => false,
+        Exception::AddressError { .. }
+        | Exception::TlbRefill { .. }
+        | Exception::TlbInvalid { .. }
+        | Exception::TlbModified => true,
+        Exception::Interrupt
+        | Exception::Overflow
+        | Exception::Syscall
+        | Exception::Breakpoint
+        | Exception::Trap
+        | Exception::ReservedInstruction
+        | Exception::CoprocessorReserved { .. }
+        | Exception::CoprocessorUnusable { .. }
+        | Exception::Nmi
+        | Exception::FloatingPoint => false,
     }
 }
 
@@ -133,19 +133,18 @@ pub(crate) fn unit_of(exc: Exception) -> u8
     ensures { result ≡ unit_of exc }
 {
     match exc {
-        Exception::Interrupt => 0,
-        Exception::AddressError { .. } => 0,
-        Exception::Overflow => 0,
-        Exception::Syscall => 0,
-        Exception::Breakpoint => 0,
-        Exception::Trap => 0,
-        Exception::ReservedInstruction => 0,
-        Exception::CoprocessorReserved { unit } => unit,
-        Exception::CoprocessorUnusable { unit } => unit,
-        Exception::Nmi => 0,
-        Exception::TlbRefill { .. } => 0,
-        Exception::TlbInvalid { .. } => 0,
-        Exception::TlbModified => 0,
-        Exception::FloatingPoint => 0,
+        Exception::CoprocessorReserved { unit } | Exception::CoprocessorUnusable { unit } => unit,
+        Exception::Interrupt
+        | Exception::AddressError { .. }
+        | Exception::Overflow
+        | Exception::Syscall
+        | Exception::Breakpoint
+        | Exception::Trap
+        | Exception::ReservedInstruction
+        | Exception::Nmi
+        | Exception::TlbRefill { .. }
+        | Exception::TlbInvalid { .. }
+        | Exception::TlbModified
+        | Exception::FloatingPoint => 0,
     }
 }

@@ -21,7 +21,7 @@ pub fn dispatch(
 {
     let kind = kinds::vector_kind_of(exc);
     // NMI alone takes the Reset vector, and does nothing of what follows.
-    if vectors::is_reset(kind) {
+    if kind == VectorKind::Reset {
         return nmi(cop0, pc);
     }
     let vector = vectors::vector(cop0.read(Cop0::STATUS), kind);

@@ -1,9 +1,9 @@
 // The vectors: where an exception's handler starts.
 ghost use Rattle.std.specs.Prelude.{◌≡◌};
-ghost use Rattle.exception.specs.Vectors.{is_reset, base_of, refill_offset_of, vector_of};
+ghost use Rattle.exception.specs.Vectors.{base_of, refill_offset_of, vector_of};
 
 // Which vector an exception uses.
-#[derive(Clone, Copy)]
+#[derive(Clone, Copy, PartialEq, Eq)]
 pub enum VectorKind {
     // The common vector.
     General,
@@ -24,17 +24,6 @@ pub fn vector(status: u64, kind: VectorKind) -> u64
         VectorKind::General => base(status) + 0x180,
         VectorKind::TlbRefill => base(status) + refill_offset(status, 0x000),
         VectorKind::XtlbRefill => base(status) + refill_offset(status, 0x080),
-    }
-}
-
-pub(crate) fn is_reset(kind: VectorKind) -> bool
-    ensures { result ≡ is_reset kind }
-{
-    match kind {
-        VectorKind::Reset => true,
-        VectorKind::General => false,
-        VectorKind::TlbRefill => false,
-        VectorKind::XtlbRefill => false,
     }
 }
 

@@ -1,4 +1,5 @@
 -- The numbers and values of answers are one-to-one: each has the answer that it came from.
+use Rattle.std.proofs.Common.{Ok, Err}
 use mathlib.Core.Path.{◌≡◌, refl, ap, ap₂}
 use mathlib.Core.Bool.{cond}
 use mathlib.Core.List.{List, [], ◌∷◌}
@@ -8,13 +9,10 @@ use lib.ListN.{get_or}
 use Rattle.bits.specs.Told.{Told}
 use Rattle.bits.proofs.Same.{one_to_one}
 use Rattle.bits.proofs.FieldLaws.{bit_undone}
-use Rattle.cop0.specs.declared.advance.AdvanceAnswer.TheVariants as advance
 use Rattle.cop0.proofs.Answers.{advance_at, advance_undone}
 use Rattle.tlb.specs.declared.entries.PageEntry.{PageEntry}
 use Rattle.tlb.specs.declared.entries.Entry.{Entry}
-use Rattle.tlb.specs.declared.entries.LookupAnswer.TheVariants as lookup
 use Rattle.tlb.proofs.Answers.{lookup_at, lookup_undone}
-use Rattle.addr.specs.declared.translate.TranslateAnswer.TheVariants as translate
 use Rattle.addr.proofs.Answers.{translate_at, translate_undone}
 use Rattle.exception.specs.declared.epilogue.Dispatch.{Dispatch}
 use Rattle.session.specs.declared.op.Answer.{Answer}
@@ -74,13 +72,13 @@ answer_undone answer.Done = refl
 answer_undone (answer.Number v) = refl
 answer_undone (answer.Flag b) = ap answer.Flag (bit_undone b)
 answer_undone (answer.Entry e) = ap answer.Entry (entry_undone e)
-answer_undone (answer.Lookup (lookup.Found t)) = ap answer.Lookup (lookup_undone (lookup.Found t))
-answer_undone (answer.Lookup (lookup.Fault f)) = ap answer.Lookup (lookup_undone (lookup.Fault f))
-answer_undone (answer.Translate (translate.At p)) = ap answer.Translate (translate_undone (translate.At p))
-answer_undone (answer.Translate (translate.Failed e)) = ap answer.Translate (translate_undone (translate.Failed e))
+answer_undone (answer.Lookup (Ok t)) = ap answer.Lookup (lookup_undone (Ok t))
+answer_undone (answer.Lookup (Err f)) = ap answer.Lookup (lookup_undone (Err f))
+answer_undone (answer.Translate (Ok p)) = ap answer.Translate (translate_undone (Ok p))
+answer_undone (answer.Translate (Err e)) = ap answer.Translate (translate_undone (Err e))
 answer_undone (answer.Vector d) = refl
-answer_undone (answer.Advance (advance.Edge e)) = ap answer.Advance (advance_undone (advance.Edge e))
-answer_undone (answer.Advance (advance.Refused n)) = refl
+answer_undone (answer.Advance (Ok e)) = ap answer.Advance (advance_undone (Ok e))
+answer_undone (answer.Advance (Err r)) = ap answer.Advance (advance_undone (Err r))
 
 pub answer_one : (a a' : Answer) → told_answer a ≡ told_answer a' → a ≡ a'
 answer_one = one_to_one told_answer (λ (t : Told). answer_at t.number t.values) answer_undone

@@ -1,8 +1,8 @@
 // A session's operations and their answers, as data: what a trace is a list of.
-use addr::{Access, TranslateAnswer};
-use cop0::AdvanceAnswer;
+use addr::{Access, Physical, TranslateError};
+use cop0::Refusal;
 use exception::{Dispatch, Exception};
-use tlb::{Entry, LookupAnswer};
+use tlb::{Entry, TlbFault, Translated};
 
 // One operation with its operands, named after the method that it runs.
 #[derive(Clone, Copy)]
@@ -40,9 +40,9 @@ pub enum Answer {
     Number(u64),
     Flag(bool),
     Entry(Entry),
-    Lookup(LookupAnswer),
-    Translate(TranslateAnswer),
+    Lookup(Result<Translated, TlbFault>),
+    Translate(Result<Physical, TranslateError>),
     Vector(Dispatch),
     // The only operation of a session that can be refused.
-    Advance(AdvanceAnswer),
+    Advance(Result<bool, Refusal>),
 }

@@ -1,14 +1,14 @@
 -- `exception::dispatch` does what each step is proved to do.
 use Rattle.exception.specs.Kinds.{vector_kind_of}
 use Rattle.exception.specs.Taking.{taken_of, dispatch_of}
-use Rattle.exception.proofs.Answers.{kind_one}
+use Rattle.exception.proofs.Answers.{kind_one, reset_tested}
 use Rattle.exception.proofs.taking.dispatch.Goals as goal
 
-pub returns-then-is_reset : goal.returns-then-is_reset
+pub returns-then-eq : goal.returns-then-eq
 unfolding dispatch_of
-returns-then-is_reset c =
+returns-then-eq c =
     let kind = kind_one c.vector_kind_of-kind.result (vector_kind_of c.args.exc) c.vector_kind_of-kind.ensures in
-    rw (c.nmi.ensures, ← kind, ← c.is_reset.ensures, c.if-is_reset.true)
+    rw (c.nmi.ensures, ← kind, reset_tested, ← c.eq.ensures, c.if-eq.true)
 
 pub returns-then-writes_bad_vaddr : goal.returns-then-writes_bad_vaddr
 unfolding dispatch_of taken_of
@@ -22,8 +22,9 @@ returns-then-writes_bad_vaddr c =
       c.vector-vector.ensures,
       c.read.ensures,
       ← kind,
-      ← c.is_reset.ensures,
-      c.if-is_reset.false,
+      reset_tested,
+      ← c.eq.ensures,
+      c.if-eq.false,
       ← c.writes_bad_vaddr.ensures,
       c.if-writes_bad_vaddr.true,
     )
@@ -39,8 +40,9 @@ returns c =
       c.vector-vector.ensures,
       c.read.ensures,
       ← kind,
-      ← c.is_reset.ensures,
-      c.if-is_reset.false,
+      reset_tested,
+      ← c.eq.ensures,
+      c.if-eq.false,
       ← c.writes_bad_vaddr.ensures,
       c.if-writes_bad_vaddr.false,
     )
