@@ -1,10 +1,10 @@
 -- A lookup in words, by what the scan found; and the lowest match, by asking one entry after another.
-use Rattle.std.proofs.Common.{◌≡◌, ℕ, ◌+◌, ◌-◌, ◌%◌, ◌^◌, ◌<◌, ◌≤◌, Bool, true, false, List, [], ◌∷◌, get_or, drop, set, sym, refl, ap, ◌∙◌, ap₂, arith, le-ltb, lt-ltb, eq-eqb, ne_eqb}
+use Rattle.std.proofs.Common.{◌≡◌, ℕ, ◌+◌, ◌-◌, ◌%◌, ◌^◌, ◌<◌, ◌≤◌, Bool, true, false, List, [], ◌∷◌, get_or, drop, set, sym, refl, ap, ◌∙◌, ap₂, arith, le-ltb, lt-ltb, eq-eqb, ne_eqb, Result, Err}
 use Rattle.bits.specs.Field.{with_field_of}
 use Rattle.tlb.specs.declared.entries.TlbFault.TheVariants.{Refill}
-use Rattle.tlb.specs.declared.entries.LookupAnswer.{LookupAnswer}
-use Rattle.tlb.specs.declared.entries.LookupAnswer.TheVariants.{Fault}
 use Rattle.tlb.specs.declared.entries.Entry.{Entry}
+use Rattle.tlb.specs.declared.entries.Translated.{Translated}
+use Rattle.tlb.specs.declared.entries.TlbFault.{TlbFault}
 use Rattle.tlb.specs.Entries.{matches_of, entry_answer}
 use Rattle.tlb.specs.Table.{with_vpn2, entry_at, matching, head_of, several, hits_of}
 use Rattle.tlb.specs.Lookup.{lookup_answer, lookup_table}
@@ -44,11 +44,11 @@ module _ (ws : List ℕ) (v asid : ℕ) where
   small j js e = omega (arith, below (entries_in ws) v asid 0 j js e, entries_long ws)
 
   -- what a lookup must answer and leave
-  abbrev Looks : Bool → LookupAnswer → List ℕ → Type 0
+  abbrev Looks : Bool → Result Translated TlbFault → List ℕ → Type 0
   Looks store a ws' = (looked_of a ≡ looked_of (lookup_answer (table_in ws) v asid store)) × (ws' ≡ put_micro ws (lookup_table (table_in ws) v asid))
 
   module _ (store : Bool) where
-    pub when_shut : get_or ws 131 0 % 2 ≡ 1 → Looks store (Fault Refill) ws
+    pub when_shut : get_or ws 131 0 % 2 ≡ 1 → Looks store (Err Refill) ws
     when_shut e =
         let r = is_shut (table_in ws) v asid store (eq-eqb (get_or ws 131 0 % 2) 1 e) in
         (ap looked_of r.0, sym (at_home ws) ∙ ap (put_micro ws) r.1)
@@ -65,13 +65,13 @@ module _ (ws : List ℕ) (v asid : ℕ) where
           let at : entry_at (table_in ws) (head_of l) ≡ entry_in ws f = ap (entry_at (table_in ws)) first ∙ entry_at_lem ws f h in
           (ap looked_of (ap₂ (λ (i : ℕ) (e : Entry). entry_answer i e v store) (sym first) (sym at) ∙ r.0), sym (at_home ws) ∙ ap (put_micro ws) r.1)
 
-      pub when_none : f ≡ 32 → Looks store (Fault Refill) ws
+      pub when_none : f ≡ 32 → Looks store (Err Refill) ws
       when_none h =
           let b = by_none l small (sym ef ∙ h) in
           let r = nothing (table_in ws) v asid store on (hits_of l) refl (entries_long ws) b.0 (omega (arith, b.1)) in
           (ap looked_of r.0, sym (at_home ws) ∙ ap (put_micro ws) r.1)
 
-      pub when_more : 32 ≤ f → (f ≡ 32 → ⊥) → Looks store (Fault Refill) (set ws 131 (with_field_of (get_or ws 131 0) 0 0 1))
+      pub when_more : 32 ≤ f → (f ≡ 32 → ⊥) → Looks store (Err Refill) (set ws 131 (with_field_of (get_or ws 131 0) 0 0 1))
       when_more h n =
           let r = clash (table_in ws) v asid store on (hits_of l) refl (by_more l small (rw ef at h) (λ q. n (ef ∙ q))) in
           (ap looked_of r.0, to_shut ws ∙ ap (put_micro ws) r.1)

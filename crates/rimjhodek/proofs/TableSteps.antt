@@ -1,13 +1,11 @@
 -- The exports of the TLB make a session: from the contract of an operation's export, as the checker reads it, follows that the answer
 -- and the session that the words mean afterwards are the session's own step.
-use Rattle.std.proofs.Common.{◌≡◌, ℕ, ◌-◌, ◌%◌, Bool, true, false, cond, not, eqb, List, [], ◌∷◌, refl, ap, ◌∙◌, arith}
+use Rattle.std.proofs.Common.{◌≡◌, ℕ, ◌-◌, ◌%◌, Bool, true, false, cond, not, eqb, List, [], ◌∷◌, refl, ap, ◌∙◌, arith, Result, Ok, Err}
 use contract.Lifetimes as Lifetimes
 use borrow.Fn.World as World
 use Rattle.bits.specs.Field.{bit}
 use Rattle.bits.specs.Told.{Told, answered}
 use Rattle.tlb.specs.declared.entries.TlbFault.TheVariants as fault
-use Rattle.tlb.specs.declared.entries.LookupAnswer.{LookupAnswer}
-use Rattle.tlb.specs.declared.entries.LookupAnswer.TheVariants.{Found, Fault}
 use Rattle.tlb.specs.declared.table.Tlb.{Tlb}
 use Rattle.tlb.specs.Entries.{told_lookup}
 use Rattle.tlb.specs.Lookup.{lookup_answer, lookup_table}
@@ -17,8 +15,6 @@ use Rattle.tlb.proofs.Sound.{entry_sound}
 use Rattle.addr.specs.declared.segments.Cached.{Cached}
 use Rattle.addr.specs.declared.segments.Cached.TheVariants.{Yes, No}
 use Rattle.addr.specs.declared.translate.TranslateError.TheVariants as error
-use Rattle.addr.specs.declared.translate.TranslateAnswer.{TranslateAnswer}
-use Rattle.addr.specs.declared.translate.TranslateAnswer.TheVariants.{At, Failed}
 use Rattle.addr.specs.Answers.{told_translate}
 use Rattle.addr.specs.Translate.{translate_answer, translate_table}
 use Rattle.session.specs.declared.op.Op.{Op}
@@ -27,6 +23,10 @@ use Rattle.session.specs.Answers.{of_case, done, number}
 use Rattle.session.specs.Step.{told, flag, step_of}
 use Rattle.rimjhodek.specs.declared.table.Looked.{Looked}
 use Rattle.rimjhodek.specs.declared.modes.By.{By}
+use Rattle.tlb.specs.declared.entries.Translated.{Translated}
+use Rattle.tlb.specs.declared.entries.TlbFault.{TlbFault}
+use Rattle.addr.specs.declared.translate.Physical.{Physical}
+use Rattle.addr.specs.declared.translate.TranslateError.{TranslateError}
 use Rattle.rimjhodek.specs.Registers.{cop0_in}
 use Rattle.rimjhodek.specs.Numbered.{unknown}
 use Rattle.rimjhodek.specs.Modes.{is_mode, access_in}
@@ -64,29 +64,29 @@ use Rattle.rimjhodek.proofs.translation.rimjhodek_translate_via.Reads as transla
 abbrev pub told_looked : Looked → Told
 told_looked r = answered (cond (eqb r.error 0) (r.addr ∷ bit r.uncached ∷ r.entry ∷ []) ((r.error - 1) ∷ []))
 
-pub looked_told : (a : LookupAnswer) → told_looked (looked_of a) ≡ told_lookup a
-looked_told (Found t) = refl
-looked_told (Fault fault.Refill) = refl
-looked_told (Fault fault.Invalid) = refl
-looked_told (Fault fault.Modified) = refl
+pub looked_told : (a : Result Translated TlbFault) → told_looked (looked_of a) ≡ told_lookup a
+looked_told (Ok t) = refl
+looked_told (Err fault.Refill) = refl
+looked_told (Err fault.Invalid) = refl
+looked_told (Err fault.Modified) = refl
 
 -- and a translation's, which tells whether the page is cached
 abbrev pub told_translated : Looked → Told
 told_translated r = answered (cond (eqb r.error 0) (r.addr ∷ bit (not r.uncached) ∷ r.entry ∷ []) ((r.error - 1) ∷ []))
 
-pub translated_told : (a : TranslateAnswer) → told_translated (translated_of a) ≡ told_translate a
-translated_told (At p) = go p.cached
+pub translated_told : (a : Result Physical TranslateError) → told_translated (translated_of a) ≡ told_translate a
+translated_told (Ok p) = go p.cached
   where
-    reached : Cached → TranslateAnswer
-    reached c = At (record { addr = p.addr; cached = c; entry = p.entry })
+    reached : Cached → Result Physical TranslateError
+    reached c = Ok (record { addr = p.addr; cached = c; entry = p.entry })
 
     go : (c : Cached) → told_translated (translated_of (reached c)) ≡ told_translate (reached c)
     go Yes = refl
     go No = refl
-translated_told (Failed error.Address) = refl
-translated_told (Failed (error.Tlb fault.Refill)) = refl
-translated_told (Failed (error.Tlb fault.Invalid)) = refl
-translated_told (Failed (error.Tlb fault.Modified)) = refl
+translated_told (Err error.Address) = refl
+translated_told (Err (error.Tlb fault.Refill)) = refl
+translated_told (Err (error.Tlb fault.Invalid)) = refl
+translated_told (Err (error.Tlb fault.Modified)) = refl
 
 -- what needs no words
 pub page_size_steps : (a : ℕ × Unit {0}) (r : ℕ) (w : Words) → Whole w → page_size_reads.Post tt a r a → Steps (op.PageSize a.0) w (number r) w

@@ -1,8 +1,6 @@
 -- A translation, by the segment of the address; and one in the kernel's KSEG0 or KSEG1.
-use Rattle.std.proofs.Common.{◌≡◌, ℕ, Bool, true, false, not, List, sym, refl, ap, ◌∙◌}
+use Rattle.std.proofs.Common.{◌≡◌, ℕ, Bool, true, false, not, List, sym, refl, ap, ◌∙◌, Result, Ok, Err}
 use Rattle.bits.specs.Field.{field_of}
-use Rattle.tlb.specs.declared.entries.LookupAnswer.{LookupAnswer}
-use Rattle.tlb.specs.declared.entries.LookupAnswer.TheVariants.{Found, Fault}
 use Rattle.tlb.specs.Lookup.{lookup_answer, lookup_table}
 use Rattle.addr.specs.declared.access.Mode.TheVariants.{Kernel}
 use Rattle.addr.specs.declared.access.Access.{Access}
@@ -12,6 +10,8 @@ use Rattle.addr.specs.Segments.{inside, segment_of}
 use Rattle.addr.specs.Translate.{mapped_answer, translate_answer, translate_table}
 use Rattle.rimjhodek.specs.declared.modes.By.{By}
 use Rattle.rimjhodek.specs.declared.table.Looked.{Looked}
+use Rattle.tlb.specs.declared.entries.Translated.{Translated}
+use Rattle.tlb.specs.declared.entries.TlbFault.{TlbFault}
 use Rattle.rimjhodek.specs.Modes.{is_mode, is_cached, access_in, mode_in}
 use Rattle.rimjhodek.specs.Table.{table_in, put_micro, failed, looked_of}
 use Rattle.rimjhodek.specs.Translation.{translated_of, via_answer, via_table, direct, unmapped}
@@ -19,14 +19,14 @@ use Rattle.rimjhodek.proofs.Segments.{kseg, kseg_segment}
 use Rattle.rimjhodek.proofs.Slots.{at_home}
 
 -- a lookup's answer crosses as the translation's that it becomes
-mapped_crosses : (a : LookupAnswer) → looked_of a ≡ translated_of (mapped_answer a)
-mapped_crosses (Found t) = go t.uncached
+mapped_crosses : (a : Result Translated TlbFault) → looked_of a ≡ translated_of (mapped_answer a)
+mapped_crosses (Ok t) = go t.uncached
   where
-    go : (b : Bool) → looked_of (Found (record { addr = t.addr; uncached = b; entry = t.entry }))
-        ≡ translated_of (mapped_answer (Found (record { addr = t.addr; uncached = b; entry = t.entry })))
+    go : (b : Bool) → looked_of (Ok (record { addr = t.addr; uncached = b; entry = t.entry }))
+        ≡ translated_of (mapped_answer (Ok (record { addr = t.addr; uncached = b; entry = t.entry })))
     go true = refl
     go false = refl
-mapped_crosses (Fault f) = refl
+mapped_crosses (Err f) = refl
 
 module _ (ws : List ℕ) (v asid : ℕ) (store : Bool) (a : Access) where
   -- what a translation must answer and leave

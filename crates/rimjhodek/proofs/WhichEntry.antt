@@ -1,10 +1,8 @@
 -- Which entry answered, of the exports by their contracts: `entry` is the number of the only entry that matches, 32 where the
 -- address is reached directly, and 0 where it is not reached. Without it the answer is what it was before there was a number.
-use Rattle.std.proofs.Common.{◌≡◌, ℕ, Bool, true, false, cond, length, sym, refl, ap, ◌∙◌, subst, arith}
+use Rattle.std.proofs.Common.{◌≡◌, ℕ, Bool, true, false, cond, length, sym, refl, ap, ◌∙◌, subst, arith, Result, Ok, Err}
 use contract.Lifetimes as Lifetimes
 use borrow.Fn.World as World
-use Rattle.tlb.specs.declared.entries.LookupAnswer.{LookupAnswer}
-use Rattle.tlb.specs.declared.entries.LookupAnswer.TheVariants.{Found, Fault}
 use Rattle.tlb.specs.declared.table.Tlb.{Tlb}
 use Rattle.tlb.specs.Lookup.{lookup_answer}
 use Rattle.tlb.specs.Former.{unnumbered, former_lookup}
@@ -13,13 +11,15 @@ use Rattle.addr.specs.declared.access.Access.{Access}
 use Rattle.addr.specs.declared.segments.Cached.{Cached}
 use Rattle.addr.specs.declared.segments.Segment.{Segment}
 use Rattle.addr.specs.declared.segments.Segment.TheVariants.{Direct, Mapped}
-use Rattle.addr.specs.declared.translate.TranslateAnswer.{TranslateAnswer}
-use Rattle.addr.specs.declared.translate.TranslateAnswer.TheVariants.{At, Failed}
 use Rattle.addr.specs.Segments.{segment_of}
 use Rattle.addr.specs.Translate.{translate_answer}
 use Rattle.addr.specs.Former.{former_translate}
 use Rattle.addr.proofs.WhichEntry.{direct_has_32, mapped_only, translate_former}
 use Rattle.rimjhodek.specs.declared.table.Looked.{Looked}
+use Rattle.tlb.specs.declared.entries.Translated.{Translated}
+use Rattle.tlb.specs.declared.entries.TlbFault.{TlbFault}
+use Rattle.addr.specs.declared.translate.Physical.{Physical}
+use Rattle.addr.specs.declared.translate.TranslateError.{TranslateError}
 use Rattle.rimjhodek.specs.Numbered.{unknown}
 use Rattle.rimjhodek.specs.Modes.{is_mode, access_in}
 use Rattle.rimjhodek.specs.Table.{table_in, failed, looked_of}
@@ -43,21 +43,21 @@ pub record BySegment (t : Tlb) (v asid : ℕ) (g : Segment) (r : Looked) : Type 
   pub lost : (r.error ≡ 0 → ⊥) → r.entry ≡ 0
 
 module _ (t : Tlb) (long : length t.entries ≡ 32) (v asid : ℕ) (store : Bool) where
-  looked_by : (l : LookupAnswer) → lookup_answer t v asid store ≡ l → ByEntry t v asid (looked_of l)
-  looked_by (Found x) e = record { found = λ z. found_only t long v asid store x e; lost = λ n. absurd (n refl) }
-  looked_by (Fault f) e = record { found = λ z. absurd (omega (arith, z)); lost = λ n. refl }
+  looked_by : (l : Result Translated TlbFault) → lookup_answer t v asid store ≡ l → ByEntry t v asid (looked_of l)
+  looked_by (Ok x) e = record { found = λ z. found_only t long v asid store x e; lost = λ n. absurd (n refl) }
+  looked_by (Err f) e = record { found = λ z. absurd (omega (arith, z)); lost = λ n. refl }
 
   module _ (a : Access) where
     -- b says whether the mode's number names one
-    translated_by : (b : Bool) (x : TranslateAnswer) → translate_answer t v asid store a ≡ x
+    translated_by : (b : Bool) (x : Result Physical TranslateError) → translate_answer t v asid store a ≡ x
         → BySegment t v asid (segment_of a v) (cond b (translated_of x) (failed unknown))
-    translated_by true (At p) e =
+    translated_by true (Ok p) e =
         record {
           mapped = λ m z. mapped_only t v asid store a p e m long;
           direct = λ q c d z. direct_has_32 t v asid store a p e q c d;
           lost = λ n. absurd (n refl);
         }
-    translated_by true (Failed f) e =
+    translated_by true (Err f) e =
         record { mapped = λ m z. absurd (omega (arith, z)); direct = λ q c d z. absurd (omega (arith, z)); lost = λ n. refl }
     translated_by false x e =
         record { mapped = λ m z. absurd (omega (arith, z)); direct = λ q c d z. absurd (omega (arith, z)); lost = λ n. refl }

@@ -1,17 +1,17 @@
 -- The TLB as 132 words. Entry i is words 4i to 4i + 3: PageMask, EntryHi, EntryLo0 and EntryLo1 (figure 5-10). Words 128 and 129
 -- are the micro-TLB's slots, 130 its next slot, 131 whether the TLB is shut down.
-use Rattle.std.specs.Prelude.{ℕ, zero, suc, ◌+◌, ◌*◌, ◌/◌, ◌%◌, ◌^◌, Bool, false, cond, ◌&&◌, ◌||◌, List, [], ◌∷◌, ◌++◌, set, replicate, ◌==◌, nat_lt, slice_index, slice_set}
+use Rattle.std.specs.Prelude.{ℕ, zero, suc, ◌+◌, ◌*◌, ◌/◌, ◌%◌, ◌^◌, Bool, false, cond, ◌&&◌, ◌||◌, List, [], ◌∷◌, ◌++◌, set, replicate, ◌==◌, nat_lt, slice_index, slice_set, Result, Ok, Err}
 use Rattle.bits.specs.Field.{field_of, bit}
 use Rattle.bits.specs.Mask.{cleared}
 use Rattle.bits.specs.Extension.{low32_of}
 use Rattle.tlb.specs.declared.entries.Entry.{Entry}
-use Rattle.tlb.specs.declared.entries.LookupAnswer.{LookupAnswer}
-use Rattle.tlb.specs.declared.entries.LookupAnswer.TheVariants.{Found, Fault}
 use Rattle.tlb.specs.declared.table.Tlb.{Tlb}
 use Rattle.tlb.specs.Entries.{fault_number}
 use Rattle.tlb.specs.Micro.{lowest}
 use Rattle.tlb.specs.Words.{entry_of_words, hi_word, lo_word}
 use Rattle.rimjhodek.specs.declared.table.Looked.{Looked}
+use Rattle.tlb.specs.declared.entries.Translated.{Translated}
+use Rattle.tlb.specs.declared.entries.TlbFault.{TlbFault}
 use Rattle.rimjhodek.specs.Registers.{over}
 
 abbrev pub word_in : List ℕ → ℕ → ℕ → ℕ
@@ -119,6 +119,6 @@ abbrev pub failed : ℕ → Looked
 failed n = record { error = n; uncached = false; entry = 0; addr = 0 }
 
 -- error 0 is none; a fault is its number and 1
-abbrev pub looked_of : LookupAnswer → Looked
-looked_of (Found t) = record { error = 0; uncached = t.uncached; entry = t.entry; addr = t.addr }
-looked_of (Fault f) = failed (1 + fault_number f)
+abbrev pub looked_of : Result Translated TlbFault → Looked
+looked_of (Ok t) = record { error = 0; uncached = t.uncached; entry = t.entry; addr = t.addr }
+looked_of (Err f) = failed (1 + fault_number f)

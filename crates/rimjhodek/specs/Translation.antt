@@ -1,22 +1,22 @@
 -- A translation as it crosses.
-use Rattle.std.specs.Prelude.{ℕ, ◌+◌, Bool, cond, not, ◌&&◌}
+use Rattle.std.specs.Prelude.{ℕ, ◌+◌, Bool, cond, not, ◌&&◌, Result, Ok, Err}
 use Rattle.bits.specs.Field.{field_of}
 use Rattle.tlb.specs.declared.table.Tlb.{Tlb}
-use Rattle.addr.specs.declared.translate.TranslateAnswer.{TranslateAnswer}
-use Rattle.addr.specs.declared.translate.TranslateAnswer.TheVariants.{At, Failed}
 use Rattle.addr.specs.Answers.{error_number}
 use Rattle.addr.specs.Segments.{inside}
 use Rattle.addr.specs.Translate.{translate_answer, translate_table}
 use Rattle.rimjhodek.specs.declared.modes.By.{By}
 use Rattle.rimjhodek.specs.declared.table.Looked.{Looked}
+use Rattle.addr.specs.declared.translate.Physical.{Physical}
+use Rattle.addr.specs.declared.translate.TranslateError.{TranslateError}
 use Rattle.rimjhodek.specs.Numbered.{unknown}
 use Rattle.rimjhodek.specs.Modes.{is_mode, access_in, is_cached}
 use Rattle.rimjhodek.specs.Table.{failed}
 
 -- error 0 is none; a failure is its number and 1
-abbrev pub translated_of : TranslateAnswer → Looked
-translated_of (At p) = record { error = 0; uncached = not (is_cached p.cached); entry = p.entry; addr = p.addr }
-translated_of (Failed e) = failed (1 + error_number e)
+abbrev pub translated_of : Result Physical TranslateError → Looked
+translated_of (Ok p) = record { error = 0; uncached = not (is_cached p.cached); entry = p.entry; addr = p.addr }
+translated_of (Err e) = failed (1 + error_number e)
 
 -- a number that names no mode is refused, and changes nothing
 unfoldable pub via_answer : Tlb → ℕ → ℕ → Bool → By → Looked

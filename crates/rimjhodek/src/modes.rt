@@ -1,13 +1,12 @@
 // Modes and segments.
-ghost use Rattle.std.specs.Prelude.{◌≡◌};
-ghost use Rattle.addr.specs.declared.access.AccessAnswer.TheVariants.{Of};
+ghost use Rattle.std.specs.Prelude.{◌≡◌, Ok};
 ghost use Rattle.addr.specs.Access.{access_of};
 ghost use Rattle.addr.specs.Answers.{mode_number, told_access};
 ghost use Rattle.bits.specs.Told.{answered};
 ghost use Rattle.rimjhodek.specs.Modes.{is_mode, mode_in, access_in, granted_of, is_cached, segment_values, reached_of, segment_told};
 
 use crate::refusals::UNKNOWN;
-use addr::{Access, AccessAnswer, Cached, Mode, Segment};
+use addr::{Access, Cached, Mode, Segment};
 
 // How an access is made. A mode's number is its KSU: 0 is kernel, 1 supervisor, 2 user.
 #[repr(C)]
@@ -43,9 +42,9 @@ pub extern "C" fn rimjhodek_from_status(status: u64) -> Granted
     ensures { result ≡ granted_of (access_of status) }
 {
     match Access::from_status(status) {
-        AccessAnswer::Of(access) => granting(access),
-        AccessAnswer::Refused(n) => Granted {
-            refused: n,
+        Ok(access) => granting(access),
+        Err(refusal) => Granted {
+            refused: refusal.number(),
             mode: 0,
             wide: false,
             erl: false,
@@ -94,7 +93,7 @@ fn reaching(segment: Segment) -> Reached
 }
 
 fn granting(asked: Access) -> Granted
-    ensures { result ≡ granted_of (told_access (Of asked)) }
+    ensures { result ≡ granted_of (told_access (Ok asked)) }
 {
     let mode = asked.mode;
     Granted {
