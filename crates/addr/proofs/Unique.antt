@@ -14,6 +14,7 @@ use Rattle.addr.specs.declared.refusal.Refusal.{Refusal}
 use Rattle.addr.proofs.Answers.{access_one, segment_one, translate_one}
 use Rattle.addr.proofs.access.Access.kernel.Reads as kernel
 use Rattle.addr.proofs.access.Access.from_status.Reads as from_status
+use Rattle.addr.proofs.refusal.Refusal.number.Reads as refusal_number
 use Rattle.addr.proofs.access.Access.segment.Reads as segment
 use Rattle.addr.proofs.segments.within.Reads as within
 use Rattle.addr.proofs.translate.translate_via.Reads as translate_via
@@ -27,6 +28,10 @@ kernel_unique a r r' = same
 pub from_status_unique : (a : ℕ × Unit {0}) (r r' : Result Access Refusal) → from_status.Post tt a r a
     → from_status.Post tt a r' a → r ≡ r'
 from_status_unique a r r' p q = access_one r r' (same p q)
+
+pub refusal_number_unique : (a : Refusal × Unit {0}) (r r' : ℕ) → refusal_number.Post tt a r a
+    → refusal_number.Post tt a r' a → r ≡ r'
+refusal_number_unique a r r' = same
 
 pub segment_unique : (a : Access × (ℕ × Unit {0})) (r r' : Segment) → segment.Post tt a r a → segment.Post tt a r' a → r ≡ r'
 segment_unique a r r' p q = segment_one r r' (same p q)

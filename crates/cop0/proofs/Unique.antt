@@ -35,6 +35,7 @@ use Rattle.cop0.proofs.registers.Cop0.set_ip.Reads as set_ip
 use Rattle.cop0.proofs.registers.Cop0.interrupt_pending.Reads as interrupt_pending
 use Rattle.cop0.proofs.registers.Cop0.advance.Reads as advance
 use Rattle.cop0.proofs.registers.is_wide.Reads as is_wide
+use Rattle.cop0.proofs.refusal.Refusal.number.Reads as refusal_number
 use Rattle.cop0.proofs.access.Cop0Op.from_rs.Reads as from_rs
 use Rattle.cop0.specs.contracts.in_place.advance_in_place as advance_in_place
 
@@ -131,6 +132,10 @@ advance_in_place_unique w κs a r r' s s' =
 
 pub is_wide_unique : (a : ℕ × Unit {0}) (r r' : Bool) → is_wide.Post tt a r a → is_wide.Post tt a r' a → r ≡ r'
 is_wide_unique a r r' = same
+
+pub refusal_number_unique : (a : Refusal × Unit {0}) (r r' : ℕ) → refusal_number.Post tt a r a
+    → refusal_number.Post tt a r' a → r ≡ r'
+refusal_number_unique a r r' = same
 
 pub from_rs_unique : (a : ℕ × Unit {0}) (r r' : Result Cop0Op Refusal) → from_rs.Post tt a r a → from_rs.Post tt a r' a → r ≡ r'
 from_rs_unique a r r' p q = from_rs_one r r' (same p q)
