@@ -100,9 +100,9 @@ pub fn vector_kind_of(exc: Exception) -> VectorKind
         | Exception::ReservedInstruction
         | Exception::CoprocessorReserved { .. }
         | Exception::CoprocessorUnusable { .. }
-        | Exception::TlbInvalid { .. }
+        | Exception::FloatingPoint
         | Exception::TlbModified
-        | Exception::FloatingPoint => VectorKind::General,
+        | Exception::TlbInvalid { .. } => VectorKind::General,
     }
 }
 
@@ -111,20 +111,20 @@ pub fn writes_bad_vaddr(exc: Exception) -> bool
     ensures { result ≡ writes_bad_vaddr_of exc }
 {
     match exc {
-        Exception::AddressError { .. }
-        | Exception::TlbRefill { .. }
+        Exception::TlbRefill { .. }
         | Exception::TlbInvalid { .. }
-        | Exception::TlbModified => true,
+        | Exception::TlbModified
+        | Exception::AddressError { .. } => true,
         Exception::Interrupt
         | Exception::Overflow
-        | Exception::Syscall
         | Exception::Breakpoint
         | Exception::Trap
         | Exception::ReservedInstruction
         | Exception::CoprocessorReserved { .. }
         | Exception::CoprocessorUnusable { .. }
         | Exception::Nmi
-        | Exception::FloatingPoint => false,
+        | Exception::FloatingPoint
+        | Exception::Syscall => false,
     }
 }
 
