@@ -47,6 +47,7 @@ impl Access {
 }
 
 // Whether an address lies from first to last, both inside.
+#[tactic(auto, unfolding(crate::specs::Segments::inside))]
 pub fn within(v: u64, first: u64, last: u64) -> bool
     ensures { result ≡ inside first last v }
 {

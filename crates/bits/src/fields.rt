@@ -3,6 +3,7 @@ ghost use Rattle.std.specs.Prelude.{◌≡◌};
 ghost use Rattle.bits.specs.Field.{field_of, with_field_of};
 
 // Bits hi..lo of `x` as a number; 0 where no bit lies there.
+#[tactic(auto, using(crate::proofs::FieldLaws::unit, crate::proofs::FieldLaws::field_none, crate::proofs::FieldLaws::field_past, crate::proofs::FieldLaws::field_all, crate::proofs::FieldLaws::field_part))]
 pub fn field(x: u64, hi: u32, lo: u32) -> u64
     ensures { result ≡ field_of x hi lo }
 {

@@ -22,6 +22,7 @@ impl Cop0 {
 
     // `MTC0 rd, rt`: the low 32 bits. A register of 64 bits takes them sign-extended, which is how software writes a KSEG0
     // address to one.
+    #[tactic(auto, unfolding(crate::specs::Access::moved32))]
     pub fn mtc0(mut self, n: u8, value: u64) -> Cop0
         ensures { result ≡ mtc0_of self n value }
     {
@@ -35,6 +36,7 @@ impl Cop0 {
     }
 
     // `DMTC0 rd, rt`: all 64 bits.
+    #[tactic(auto, unfolding(crate::specs::Access::dmtc0_of))]
     pub fn dmtc0(mut self, n: u8, value: u64) -> Cop0
         ensures { result ≡ dmtc0_of self n value }
     {

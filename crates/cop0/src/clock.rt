@@ -46,6 +46,7 @@ impl Cop0 {
     // Has Count come to Compare since the timer was last asked? Count moves on between two questions, so this asks whether
     // Compare lies within the counts passed, and not whether Count stands there now: a match stepped over would be lost. To
     // stand on Compare already is no edge: at reset both are 0, and no interrupt is due.
+    #[tactic(auto, using(crate::proofs::Timer::polls))]
     pub fn timer_edge(mut self) -> Polled
         ensures { result ≡ polled_of self }
     {
@@ -58,6 +59,7 @@ impl Cop0 {
 
     // How many counts may pass until the timer's next edge, as a bound for a batch of steps. Where Compare stands on the
     // last-asked Count the next edge is 2^32 counts away, and this answers the largest u32, so that no batch stalls at 0.
+    #[tactic(auto, unfolding(crate::specs::Clock::ticks_until_match_of))]
     pub fn count_ticks_until_timer_match(self) -> u64
         ensures { result ≡ ticks_until_match_of self }
     {
@@ -69,6 +71,7 @@ impl Cop0 {
     }
 
     // The record with its last-asked mark at the present Count.
+    #[tactic(auto, unfolding(crate::specs::Clock::asked))]
     pub(crate) fn ask(mut self) -> Cop0
         ensures { result ≡ asked self }
     {

@@ -7,6 +7,7 @@ use crate::registers::Cop0;
 impl Cop0 {
     // Sets or clears a pending bit of Cause: the hardware's way to IP2 (RCP) and IP7 (timer). Software writes IP1 and IP0
     // by MTC0.
+    #[tactic(auto, unfolding(crate::specs::Interrupt::set_ip_of))]
     pub fn set_ip(mut self, bit: u8, on: bool) -> Cop0
         ensures { result ≡ set_ip_of self bit on }
     {
@@ -18,6 +19,7 @@ impl Cop0 {
 
     // Is an interrupt taken now? Interrupts are on (IE), no handler runs (EXL and ERL clear, or a handler would be entered
     // again and again), and a pending bit is not masked (6.3.5; figure 14-4).
+    #[tactic(auto, unfolding(crate::specs::Interrupt::interrupt_pending_of))]
     pub fn interrupt_pending(self) -> bool
         ensures { result ≡ interrupt_pending_of self }
     {

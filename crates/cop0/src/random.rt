@@ -7,6 +7,7 @@ use crate::registers::Cop0;
 impl Cop0 {
     // One step. The reload is at Wired and nowhere else, and the count down wraps from 0 to 63: with Wired above 31 the
     // counter was measured to go from 31 to 0, and then from 63 to Wired.
+    #[tactic(auto, using(crate::proofs::RandomLaws::six_of, crate::proofs::RandomLaws::reloads, crate::proofs::RandomLaws::falls))]
     pub fn tick_random(mut self) -> Cop0
         ensures { result ≡ tick_random_of self }
     {
@@ -22,6 +23,7 @@ impl Cop0 {
 
     // `n` steps at once: the walk from Random down to Wired, and then a cycle that is entered at 31. Both lengths are taken
     // modulo 64, since software can write a Wired above 31, which is above Random.
+    #[tactic(auto, using(crate::proofs::RandomLaws::six_of, crate::proofs::RandomLaws::walks, crate::proofs::RandomLaws::cycles))]
     pub fn tick_random_by(mut self, n: u64) -> Cop0
         ensures { result ≡ tick_random_by_of self n }
     {

@@ -192,6 +192,7 @@ impl Cop0 {
     ];
 
     // Cold reset (6.4.4). What the manual leaves undefined is 0, so that every machine starts alike.
+    #[tactic(auto, unfolding(crate::specs::Record::fresh))]
     pub fn new() -> Cop0
         ensures { result ≡ fresh }
     {
@@ -283,6 +284,7 @@ impl Cop0 {
     }
 
     // A write under the register's mask, with what Count, Compare and Wired do besides.
+    #[tactic(auto, using(crate::proofs::FileLaws::to_count, crate::proofs::FileLaws::to_compare, crate::proofs::FileLaws::to_wired, crate::proofs::FileLaws::to_other))]
     pub fn write(mut self, n: u8, value: u64) -> Cop0
         ensures { result ≡ write_of self n value }
     {
@@ -306,6 +308,7 @@ impl Cop0 {
     }
 
     // A write past the write mask, for what the hardware owns. It reaches no bit that the register does not have.
+    #[tactic(auto, unfolding(crate::specs::File::set_hardware_of))]
     pub fn set_hardware(mut self, n: u8, value: u64) -> Cop0
         ensures { result ≡ set_hardware_of self n value }
     {
@@ -330,6 +333,7 @@ impl Cop0 {
         self
     }
 
+    #[tactic(auto, unfolding(crate::specs::Registers::write_mask))]
     fn write_mask(n: u8) -> u64
         ensures { result ≡ write_mask (n % 32) }
     {
@@ -337,6 +341,7 @@ impl Cop0 {
         Self::WRITE_MASK[i]
     }
 
+    #[tactic(auto, unfolding(crate::specs::Registers::arch_mask))]
     fn arch_mask(n: u8) -> u64
         ensures { result ≡ arch_mask (n % 32) }
     {
@@ -346,6 +351,7 @@ impl Cop0 {
 }
 
 // Is register `n` 64 bits wide?
+#[tactic(auto, using(crate::proofs::Numbers::wide_bits))]
 pub fn is_wide(n: u8) -> bool
     ensures { result ≡ wide (n % 32) }
 {

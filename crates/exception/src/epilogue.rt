@@ -27,6 +27,7 @@ pub const EPILOGUE_STALL: u32 = 2;
 
 // ExcCode and CE. The first exception also records where to return to, in EPC and BD; a nested one (EXL is 1 already) leaves
 // both, or the handler that it interrupts could never return (6.3.7).
+#[tactic(auto, unfolding(crate::specs::Epilogue::recorded))]
 pub(crate) fn record(cop0: Cop0, exc: Exception, pc: u64, in_delay_slot: bool) -> Cop0
     ensures { result ≡ recorded cop0 exc pc in_delay_slot }
 {
@@ -41,6 +42,7 @@ pub(crate) fn record(cop0: Cop0, exc: Exception, pc: u64, in_delay_slot: bool) -
 
 // The faulting address, and the fields of it that a handler walks its page table by. Address errors write all four registers
 // too, as the hardware was seen to do, although no TLB was asked.
+#[tactic(auto, unfolding(crate::specs::Epilogue::addressed))]
 pub(crate) fn record_address(cop0: Cop0, bad_vaddr: u64) -> Cop0
     ensures { result ≡ addressed cop0 bad_vaddr }
 {
@@ -54,6 +56,7 @@ pub(crate) fn record_address(cop0: Cop0, bad_vaddr: u64) -> Cop0
 }
 
 // EXL: kernel mode, with interrupts off.
+#[tactic(auto, unfolding(crate::specs::Epilogue::handling))]
 pub(crate) fn enter(cop0: Cop0) -> Cop0
     ensures { result ≡ handling cop0 }
 {

@@ -13,6 +13,7 @@ pub struct Returned {
 
 // `ERET` (chapter 16): from an error level handler by ErrorEPC, else by EPC, and clears the bit of that level alone. The
 // caller clears the LL bit, which is not among these registers.
+#[tactic(auto, unfolding(crate::specs::Returning::eret_of))]
 pub fn eret(cop0: Cop0) -> Returned
     ensures { result ≡ eret_of cop0 }
 {

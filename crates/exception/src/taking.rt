@@ -10,6 +10,7 @@ use cop0::Cop0;
 
 // Takes an exception (figure 6-14): records its cause and, where it has one, its faulting address, sets EXL, and tells where
 // to fetch next. `pc` is the address of the instruction that faulted.
+#[tactic(auto, using(crate::proofs::Answers::kind_one, crate::proofs::Answers::reset_tested), unfolding(crate::specs::Taking::dispatch_of, crate::specs::Taking::taken_of))]
 pub fn dispatch(
     cop0: Cop0,
     exc: Exception,
@@ -36,6 +37,7 @@ pub fn dispatch(
 // The non-maskable interrupt (6.4.6). It keeps every register but ErrorEPC and four bits of Status: ERL, and SR, by which a
 // handler knows it from a cold reset, and BEV and TS as after a reset. It belongs to no instruction, so that there is no delay
 // slot to step back from.
+#[tactic(auto, unfolding(crate::specs::Taking::nmi_of))]
 pub fn nmi(cop0: Cop0, pc: u64) -> Dispatched
     ensures { result ≡ nmi_of cop0 pc }
 {

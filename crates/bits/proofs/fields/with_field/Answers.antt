@@ -1,8 +1,8 @@
 -- `bits::with_field` replaces the field and leaves the bits around it.
-use Rattle.std.proofs.Common.{◌≡◌, ℕ, ◌+◌, ◌-◌, ◌*◌, ◌/◌, ◌%◌, ◌^◌, ◌≤◌, refl, ◌∙◌, ap₂, arith, rules, le-leb}
+use Rattle.std.proofs.Common.{◌≡◌, ℕ, ◌+◌, ◌-◌, ◌*◌, ◌/◌, ◌%◌, ◌^◌, ◌≤◌, ◌∙◌, ap₂, arith, rules, le-leb}
 use borrow.Author.Tests.{lt-leb}
 use Rattle.bits.specs.Field.{field_of, with_field_of}
-use Rattle.bits.proofs.FieldLaws.{unit, field_low, old_le, new, replaced, replaced_lt}
+use Rattle.bits.proofs.FieldLaws.{unit, field_low, new, replaced, replaced_lt}
 use Rattle.bits.proofs.fields.with_field.Goals as goal
 
 -- the old and the new field at their place, as the code computes them
