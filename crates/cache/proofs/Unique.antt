@@ -12,6 +12,7 @@ use Rattle.cache.specs.declared.answers.Plan.{Plan}
 use Rattle.cache.specs.declared.answers.MissPlan.{MissPlan}
 use Rattle.cache.specs.declared.answers.Writeback.{Writeback}
 use Rattle.cache.proofs.OneToOne.{done_one, asked_one, value_one, plan_one, writeback_one}
+use Rattle.cache.proofs.answers.Refusal.number.Reads as number
 use Rattle.cache.specs.contracts.dcache.new as data_new
 use Rattle.cache.proofs.dcache.new.Reads as data_new_reads
 use Rattle.cache.specs.contracts.dcache.hits as data_hits
@@ -60,6 +61,9 @@ planned a d = record { answer = a; «data» = d }
 
 abbrev written : {n : ℕ} → Result (Option ℕ) Refusal → List ℕ → Writeback n
 written a d = record { answer = a; «data» = d }
+
+pub number_unique : (a : Refusal × Unit {0}) (r r' : ℕ) → number.Post tt a r a → number.Post tt a r' a → r ≡ r'
+number_unique a r r' = same
 
 pub data_new_unique : (κs : Lifetimes.Lfts 2) (a : World.ArgsD data_new.signature κs) (r r' : Result (Unit {0}) Refusal) (s s' : _)
     → data_new_reads.Post κs a r s → data_new_reads.Post κs a r' s' → (r ≡ r') × (s.0.now ≡ s'.0.now) × (s.1.0.now ≡ s'.1.0.now)

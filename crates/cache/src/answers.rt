@@ -26,8 +26,8 @@ impl Refusal {
 impl From<access::Refusal> for Refusal {
     ghost from_gives = { λ r refusal. refusal ≡ Access r };
 
-    fn from(refusal: access::Refusal) -> Refusal {
-        Refusal::Access(refusal)
+    fn from(reason: access::Refusal) -> Refusal {
+        Refusal::Access(reason)
     }
 }
 

@@ -68,25 +68,27 @@ pub fn install(lines: &mut [u8], tags: &mut [u32], addr: u32, line: [u8; 16]) ->
 pub fn read(lines: &[u8], addr: u32, len: usize) -> Result<u64, Refusal>
     ensures { told_value result ≡ read_told lines.now addr len }
 {
-    if lines.len() != BYTES {
-        return Err(Refusal::Lent);
-    }
+    both::check_lines::<BYTES>(lines)?;
     access::check(addr, len)?;
-    let at = tag_array::start(addr, 16) + (addr % 16) as usize;
-    Ok(bytes::big_endian(lines, at, len))
+    Ok(bytes::big_endian(lines, both::place::<16>(addr), len))
 }
 
 // The low `len` bytes of a value go to an address, and the line is dirty then, valid or not.
 #[tactic(auto, unfolding(crate::specs::Data::write_told, crate::specs::Data::write_bytes, crate::specs::Data::write_tags))]
-pub fn write(lines: &mut [u8], tags: &mut [u32], addr: u32, len: usize, value: u64) -> Result<(), Refusal>
+pub fn write(
+    lines: &mut [u8],
+    tags: &mut [u32],
+    addr: u32,
+    len: usize,
+    value: u64,
+) -> Result<(), Refusal>
     ensures { (told_done result ≡ write_told lines.old tags.old addr len)
         × (lines.new ≡ write_bytes lines.old tags.old addr len value)
         × (tags.new ≡ write_tags lines.old tags.old addr len) }
 {
     both::check_sized::<BYTES>(lines, tags)?;
     access::check(addr, len)?;
-    let place = tag_array::start(addr, 16) + (addr % 16) as usize;
-    bytes::put_big_endian(lines, place, len, value);
+    bytes::put_big_endian(lines, both::place::<16>(addr), len, value);
     let old = tag_array::word_for(tags, addr, 16);
     tag_array::replace(tags, addr, 16, tag_word::marked(old, true));
     Ok(())

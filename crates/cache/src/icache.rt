@@ -37,14 +37,11 @@ pub fn hits(tags: &[u32], addr: u32) -> Result<bool, Refusal>
 pub fn read_word(lines: &[u8], addr: u32) -> Result<u64, Refusal>
     ensures { told_value result ≡ word_told lines.now addr }
 {
-    if lines.len() != BYTES {
-        return Err(Refusal::Lent);
-    }
+    both::check_lines::<BYTES>(lines)?;
     if 28 < addr % 32 {
         return Err(Refusal::Access(access::Refusal::Crossing));
     }
-    let at = tag_array::start(addr, 32) + (addr % 32) as usize;
-    Ok(bytes::big_endian(lines, at, 4))
+    Ok(bytes::big_endian(lines, both::place::<32>(addr), 4))
 }
 
 // Puts a line that was read from memory into its place. Nothing has to be written back first, since no line is dirty.

@@ -1,5 +1,5 @@
 -- `dcache::miss_plan` goes by the word of the line.
-use mathlib.Core.Path.{refl, ◌∙◌}
+use mathlib.Core.Path.{◌∙◌}
 use native.Mathlib.Omega.{arith}
 use Rattle.lines.proofs.ByteLaws.{line_if_lem}
 use Rattle.cache.specs.Data.{plan_told, plan_bytes}

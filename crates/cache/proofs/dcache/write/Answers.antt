@@ -14,15 +14,14 @@ returns c =
     let ok = allowed a.addr a.len (sym c.in_ok-check.ensures) in
     let sized = c.in_ok-check_sized.ensures in
     let long = all_there 8192 _ _ _ sized in
-    let start = c.start.ensures in
     rw (
       passed _ _ sized,
       ← c.in_ok-check.ensures,
       ← c.word_for-old.ensures,
       ← c.marked.ensures,
-      ← start,
+      ← c.place.ensures,
     ) (
       refl,
-      c.put_big_endian.ensures ∙ put_is a.lines.now _ a.len (omega (arith, ok.1, long, start)) ok.0 a.value,
+      c.put_big_endian.ensures ∙ put_is a.lines.now _ a.len (omega (arith, ok.1, long, c.place.ensures)) ok.0 a.value,
       c.replace.ensures,
     )

@@ -1,20 +1,18 @@
 -- `icache::read_word` joins four bytes, where nothing is refused.
-use Prim.Native.Nat.{◌+◌, ◌%◌}
 use native.Mathlib.Omega.{arith}
-use borrow.Author.Tests.{eq-eqb, le-leb}
+use borrow.Author.Tests.{eqb-true, le-leb}
 use Rattle.lines.proofs.ByteLaws.{number_is}
 use Rattle.cache.specs.Instruction.{word_told}
+use Rattle.cache.proofs.PartLaws.{passed}
 use Rattle.cache.proofs.icache.read_word.Goals as goal
 
 pub returns : goal.returns
 unfolding word_told
 returns c =
-    let a = c.args in
-    let start = c.start.ensures in
     rw (
-      eq-eqb _ _ c.if-lines-ne-BYTES.false,
+      passed _ _ c.in_ok-check_lines.ensures,
       le-leb _ _ c.if-addr-gt28.false,
       c.big_endian.ensures,
-      number_is a.lines.now (c.start.result + a.addr % 32) 4 (omega (arith, start)) (omega arith),
-      start,
+      number_is c.args.lines.now c.place.result 4 (omega (arith, eqb-true _ _ (passed _ _ c.in_ok-check_lines.ensures), c.place.ensures)) (omega arith),
+      c.place.ensures,
     )
