@@ -1,7 +1,7 @@
 // What both caches do alike: over the size of a line, the bytes of all lines and the PState of a valid line.
-ghost use Rattle.std.specs.Prelude.{◌≡◌, ◌==◌, ◌+◌, ◌*◌, ◌%◌, ◌<◌, ◌≤◌, length, replicate};
+ghost use Rattle.std.specs.Prelude.{◌≡◌, ◌==◌, ◌+◌, ◌*◌, ◌%◌, ◌≤◌, length, replicate};
 ghost use Rattle.bits.specs.Told.{refused};
-ghost use Rattle.tags.specs.Places.{tagged, place_of};
+ghost use Rattle.tags.specs.Places.{tagged};
 ghost use Rattle.cache.specs.Answers.{refusal_number, lent_if, told_done, told_asked, told_value, told_writeback};
 ghost use Rattle.cache.specs.Both.{sized, both_told, fresh_part, install_bytes, install_tags, hits_told, load_told, resident_told, tags_told, store_tags, evicted_if, bytes_if};
 
@@ -38,14 +38,6 @@ pub(crate) fn check_sized<const BYTES: usize>(lines: &[u8], tags: &[u32]) -> Res
 {
     check_lines::<BYTES>(lines)?;
     check_tags(tags)
-}
-
-// Where the byte of an address is.
-pub(crate) fn place<const SIZE: u32>(addr: u32) -> usize
-    requires { 0 < SIZE }
-    ensures { result ≡ place_of SIZE addr }
-{
-    tag_array::start(addr, SIZE) + (addr % SIZE) as usize
 }
 
 // A cache with every line invalid.

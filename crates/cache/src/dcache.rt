@@ -70,7 +70,8 @@ pub fn read(lines: &[u8], addr: u32, len: usize) -> Result<u64, Refusal>
 {
     both::check_lines::<BYTES>(lines)?;
     access::check(addr, len)?;
-    Ok(bytes::big_endian(lines, both::place::<16>(addr), len))
+    let at = tag_array::start(addr, 16) + (addr % 16) as usize;
+    Ok(bytes::big_endian(lines, at, len))
 }
 
 // The low `len` bytes of a value go to an address, and the line is dirty then, valid or not.
@@ -88,7 +89,8 @@ pub fn write(
 {
     both::check_sized::<BYTES>(lines, tags)?;
     access::check(addr, len)?;
-    bytes::put_big_endian(lines, both::place::<16>(addr), len, value);
+    let place = tag_array::start(addr, 16) + (addr % 16) as usize;
+    bytes::put_big_endian(lines, place, len, value);
     let old = tag_array::word_for(tags, addr, 16);
     tag_array::replace(tags, addr, 16, tag_word::marked(old, true));
     Ok(())

@@ -41,7 +41,8 @@ pub fn read_word(lines: &[u8], addr: u32) -> Result<u64, Refusal>
     if 28 < addr % 32 {
         return Err(Refusal::Access(access::Refusal::Crossing));
     }
-    Ok(bytes::big_endian(lines, both::place::<32>(addr), 4))
+    let at = tag_array::start(addr, 32) + (addr % 32) as usize;
+    Ok(bytes::big_endian(lines, at, 4))
 }
 
 // Puts a line that was read from memory into its place. Nothing has to be written back first, since no line is dirty.

@@ -1,5 +1,6 @@
 -- `dcache::read` joins the bytes, where nothing is refused.
 use mathlib.Core.Path.{sym}
+use Prim.Native.Nat.{◌+◌, ◌%◌}
 use native.Mathlib.Omega.{arith}
 use borrow.Author.Tests.{eqb-true}
 use Rattle.lines.proofs.AccessLaws.{allowed}
@@ -17,6 +18,6 @@ returns c =
       passed _ _ c.in_ok-check_lines.ensures,
       ← c.in_ok-check.ensures,
       c.big_endian.ensures,
-      number_is a.lines.now c.place.result a.len (omega (arith, eqb-true _ _ (passed _ _ c.in_ok-check_lines.ensures), ok.1, c.place.ensures)) ok.0,
-      c.place.ensures,
+      number_is a.lines.now (c.start.result + a.addr % 16) a.len (omega (arith, eqb-true _ _ (passed _ _ c.in_ok-check_lines.ensures), ok.1, c.start.ensures)) ok.0,
+      c.start.ensures,
     )

@@ -19,9 +19,9 @@ returns c =
       ← c.in_ok-check.ensures,
       ← c.word_for-old.ensures,
       ← c.marked.ensures,
-      ← c.place.ensures,
+      ← c.start.ensures,
     ) (
       refl,
-      c.put_big_endian.ensures ∙ put_is a.lines.now _ a.len (omega (arith, ok.1, long, c.place.ensures)) ok.0 a.value,
+      c.put_big_endian.ensures ∙ put_is a.lines.now _ a.len (omega (arith, ok.1, long, c.start.ensures)) ok.0 a.value,
       c.replace.ensures,
     )

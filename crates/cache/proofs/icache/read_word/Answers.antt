@@ -1,4 +1,5 @@
 -- `icache::read_word` joins four bytes, where nothing is refused.
+use Prim.Native.Nat.{◌+◌, ◌%◌}
 use native.Mathlib.Omega.{arith}
 use borrow.Author.Tests.{eqb-true, le-leb}
 use Rattle.lines.proofs.ByteLaws.{number_is}
@@ -13,6 +14,6 @@ returns c =
       passed _ _ c.in_ok-check_lines.ensures,
       le-leb _ _ c.if-addr-gt28.false,
       c.big_endian.ensures,
-      number_is c.args.lines.now c.place.result 4 (omega (arith, eqb-true _ _ (passed _ _ c.in_ok-check_lines.ensures), c.place.ensures)) (omega arith),
-      c.place.ensures,
+      number_is c.args.lines.now (c.start.result + c.args.addr % 32) 4 (omega (arith, eqb-true _ _ (passed _ _ c.in_ok-check_lines.ensures), c.start.ensures)) (omega arith),
+      c.start.ensures,
     )
