@@ -1,5 +1,5 @@
 // What both caches do alike: over the size of a line, the bytes of all lines and the PState of a valid line.
-ghost use Rattle.std.specs.Prelude.{◌≡◌, ◌==◌, ◌+◌, ◌*◌, ◌%◌, ◌≤◌, length, replicate};
+ghost use Rattle.std.specs.Prelude.{◌≡◌, ◌+◌, ◌*◌, ◌%◌, ◌≤◌, length, replicate};
 ghost use Rattle.bits.specs.Told.{refused};
 ghost use Rattle.tags.specs.Places.{tagged};
 ghost use Rattle.cache.specs.Answers.{refusal_number, lent_if, told_done, told_asked, told_value, told_writeback};
@@ -20,23 +20,14 @@ pub(crate) fn check_tags(tags: &[u32]) -> Result<(), Refusal>
     }
 }
 
-// Are the bytes those of all lines?
-pub(crate) fn check_lines<const BYTES: usize>(lines: &[u8]) -> Result<(), Refusal>
-    ensures { result ≡ lent_if (length lines.now == BYTES) }
-{
-    if lines.len() == BYTES {
-        Ok(())
-    } else {
-        Err(Refusal::Lent)
-    }
-}
-
 // Has each lent part its length?
 #[tactic(auto, unfolding(crate::specs::Both::sized))]
 pub(crate) fn check_sized<const BYTES: usize>(lines: &[u8], tags: &[u32]) -> Result<(), Refusal>
     ensures { result ≡ lent_if (sized BYTES lines.now tags.now) }
 {
-    check_lines::<BYTES>(lines)?;
+    if lines.len() != BYTES {
+        return Err(Refusal::Lent);
+    }
     check_tags(tags)
 }
 

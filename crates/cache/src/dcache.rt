@@ -68,7 +68,9 @@ pub fn install(lines: &mut [u8], tags: &mut [u32], addr: u32, line: [u8; 16]) ->
 pub fn read(lines: &[u8], addr: u32, len: usize) -> Result<u64, Refusal>
     ensures { told_value result ≡ read_told lines.now addr len }
 {
-    both::check_lines::<BYTES>(lines)?;
+    if lines.len() != BYTES {
+        return Err(Refusal::Lent);
+    }
     access::check(addr, len)?;
     let at = tag_array::start(addr, 16) + (addr % 16) as usize;
     Ok(bytes::big_endian(lines, at, len))

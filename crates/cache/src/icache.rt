@@ -37,7 +37,9 @@ pub fn hits(tags: &[u32], addr: u32) -> Result<bool, Refusal>
 pub fn read_word(lines: &[u8], addr: u32) -> Result<u64, Refusal>
     ensures { told_value result ≡ word_told lines.now addr }
 {
-    both::check_lines::<BYTES>(lines)?;
+    if lines.len() != BYTES {
+        return Err(Refusal::Lent);
+    }
     if 28 < addr % 32 {
         return Err(Refusal::Access(access::Refusal::Crossing));
     }

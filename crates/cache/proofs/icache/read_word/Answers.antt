@@ -1,19 +1,18 @@
 -- `icache::read_word` joins four bytes, where nothing is refused.
 use Prim.Native.Nat.{◌+◌, ◌%◌}
 use native.Mathlib.Omega.{arith}
-use borrow.Author.Tests.{eqb-true, le-leb}
+use borrow.Author.Tests.{eq-eqb, le-leb}
 use Rattle.lines.proofs.ByteLaws.{number_is}
 use Rattle.cache.specs.Instruction.{word_told}
-use Rattle.cache.proofs.PartLaws.{passed}
 use Rattle.cache.proofs.icache.read_word.Goals as goal
 
 pub returns : goal.returns
 unfolding word_told
 returns c =
     rw (
-      passed _ _ c.in_ok-check_lines.ensures,
+      eq-eqb _ _ c.if-lines-ne-BYTES.false,
       le-leb _ _ c.if-addr-gt28.false,
       c.big_endian.ensures,
-      number_is c.args.lines.now (c.start.result + c.args.addr % 32) 4 (omega (arith, eqb-true _ _ (passed _ _ c.in_ok-check_lines.ensures), c.start.ensures)) (omega arith),
+      number_is c.args.lines.now (c.start.result + c.args.addr % 32) 4 (omega (arith, c.start.ensures)) (omega arith),
       c.start.ensures,
     )
