@@ -1,80 +1,77 @@
 -- The numbers and values of answers are one-to-one: each has the answer that it came from.
-use mathlib.Core.Path.{◌≡◌, refl, ap}
-use mathlib.Core.Bool.{cond}
+use mathlib.Core.Path.{◌≡◌, refl, ap, sym}
 use mathlib.Core.List.{List, [], ◌∷◌}
 use Prim.Native.Nat.{ℕ}
-use lib.Dec.{eqb}
+use native.Mathlib.Omega.{arith}
+use Rattle.std.proofs.Common.{Bool, true, false, Option, Some, None, Result, Ok, Err}
+use Rattle.bits.specs.Field.{bit}
 use Rattle.bits.specs.Told.{Told}
-use Rattle.bits.proofs.Same.{one_to_one}
-use Rattle.bits.proofs.FieldLaws.{bit_undone}
-use Rattle.cache.specs.declared.answers.Done.{Done}
-use Rattle.cache.specs.declared.answers.Done.TheVariants as done
-use Rattle.cache.specs.declared.answers.Asked.{Asked}
-use Rattle.cache.specs.declared.answers.Asked.TheVariants as asked
-use Rattle.cache.specs.declared.answers.Value.{Value}
-use Rattle.cache.specs.declared.answers.Value.TheVariants as value
-use Rattle.cache.specs.declared.answers.PlanAnswer.{PlanAnswer}
-use Rattle.cache.specs.declared.answers.PlanAnswer.TheVariants as plan
-use Rattle.cache.specs.declared.answers.WritebackAnswer.{WritebackAnswer}
-use Rattle.cache.specs.declared.answers.WritebackAnswer.TheVariants as writeback
-use Rattle.cache.specs.Answers.{told_done, told_asked, told_value, told_plan, told_writeback}
+use Rattle.lines.specs.declared.access.Refusal.TheVariants.{Length, Crossing}
+use Rattle.cache.specs.declared.answers.Refusal.{Refusal}
+use Rattle.cache.specs.declared.answers.Refusal.TheVariants.{Lent, Access}
+use Rattle.cache.specs.declared.answers.Plan.{Plan}
+use Rattle.cache.specs.declared.answers.Plan.TheVariants.{Hit, Fill, Evict}
+use Rattle.cache.specs.Answers.{refusal_number, told_by, plan_values, writeback_values, told_done, told_asked, told_value, told_plan, told_writeback}
 
-abbrev done_at : ℕ → List ℕ → Done
-done_at n [] = done.Refused n
-done_at n (v ∷ vs) = done.Done
+-- a refusal's number is 1, 2 or 3, and not the 0 of an answer
+refusal_one : (r r' : Refusal) → refusal_number r ≡ refusal_number r' → r ≡ r'
+refusal_one Lent Lent e = refl
+refusal_one Lent (Access Length) e = absurd (omega arith)
+refusal_one Lent (Access Crossing) e = absurd (omega arith)
+refusal_one (Access Length) Lent e = absurd (omega arith)
+refusal_one (Access Crossing) Lent e = absurd (omega arith)
+refusal_one (Access Length) (Access Length) e = refl
+refusal_one (Access Length) (Access Crossing) e = absurd (omega arith)
+refusal_one (Access Crossing) (Access Length) e = absurd (omega arith)
+refusal_one (Access Crossing) (Access Crossing) e = refl
 
-done_undone : (d : Done) → done_at (told_done d).number (told_done d).values ≡ d
-done_undone done.Done = refl
-done_undone (done.Refused n) = refl
+refusal_not_0 : (r : Refusal) → 0 ≡ refusal_number r → ⊥
+refusal_not_0 Lent e = omega arith
+refusal_not_0 (Access Length) e = omega arith
+refusal_not_0 (Access Crossing) e = omega arith
 
-pub done_one : (d d' : Done) → told_done d ≡ told_done d' → d ≡ d'
-done_one = one_to_one told_done (λ (t : Told). done_at t.number t.values) done_undone
+-- so an answer is told one-to-one where its values are
+module _ {A : Type 0} (values : A → List ℕ) (one : (a a' : A) → values a ≡ values a' → a ≡ a') where
+  told_one : (r r' : Result A Refusal) → told_by values r ≡ told_by values r' → r ≡ r'
+  told_one (Ok a) (Ok a') e = ap Ok (one a a' (ap (λ (t : Told). t.values) e))
+  told_one (Ok a) (Err r) e = absurd (refusal_not_0 r (ap (λ (t : Told). t.number) e))
+  told_one (Err r) (Ok a) e = absurd (refusal_not_0 r (sym (ap (λ (t : Told). t.number) e)))
+  told_one (Err r) (Err r') e = ap Err (refusal_one r r' (ap (λ (t : Told). t.number) e))
 
-abbrev asked_at : ℕ → List ℕ → Asked
-asked_at n [] = asked.Refused n
-asked_at n (v ∷ vs) = asked.Is (eqb v 1)
+bit_one : (a b : Bool) → ◌≡◌ {A = List ℕ} (bit a ∷ []) (bit b ∷ []) → a ≡ b
+bit_one true true e = refl
+bit_one true false e = cc
+bit_one false true e = cc
+bit_one false false e = refl
 
-asked_undone : (a : Asked) → asked_at (told_asked a).number (told_asked a).values ≡ a
-asked_undone (asked.Is b) = ap asked.Is (bit_undone b)
-asked_undone (asked.Refused n) = refl
+plan_values_one : (p p' : Plan) → plan_values p ≡ plan_values p' → p ≡ p'
+plan_values_one Hit Hit e = refl
+plan_values_one Hit Fill e = cc
+plan_values_one Hit (Evict a) e = cc
+plan_values_one Fill Hit e = cc
+plan_values_one Fill Fill e = refl
+plan_values_one Fill (Evict a) e = cc
+plan_values_one (Evict a) Hit e = cc
+plan_values_one (Evict a) Fill e = cc
+plan_values_one (Evict a) (Evict b) e = cc
 
-pub asked_one : (a a' : Asked) → told_asked a ≡ told_asked a' → a ≡ a'
-asked_one = one_to_one told_asked (λ (t : Told). asked_at t.number t.values) asked_undone
+writeback_values_one : (o o' : Option ℕ) → writeback_values o ≡ writeback_values o' → o ≡ o'
+writeback_values_one None None e = refl
+writeback_values_one None (Some a) e = cc
+writeback_values_one (Some a) None e = cc
+writeback_values_one (Some a) (Some b) e = cc
 
-abbrev value_at : ℕ → List ℕ → Value
-value_at n [] = value.Refused n
-value_at n (v ∷ vs) = value.Of v
+pub done_one : (d d' : Result (Unit {0}) Refusal) → told_done d ≡ told_done d' → d ≡ d'
+done_one = told_one (λ (u : Unit {0}). 0 ∷ []) (λ u u' e. refl)
 
-value_undone : (v : Value) → value_at (told_value v).number (told_value v).values ≡ v
-value_undone (value.Of v) = refl
-value_undone (value.Refused n) = refl
+pub asked_one : (a a' : Result Bool Refusal) → told_asked a ≡ told_asked a' → a ≡ a'
+asked_one = told_one (λ (b : Bool). bit b ∷ []) bit_one
 
-pub value_one : (v v' : Value) → told_value v ≡ told_value v' → v ≡ v'
-value_one = one_to_one told_value (λ (t : Told). value_at t.number t.values) value_undone
+pub value_one : (v v' : Result ℕ Refusal) → told_value v ≡ told_value v' → v ≡ v'
+value_one = told_one (λ (v : ℕ). v ∷ []) (λ v v' e. cc)
 
-abbrev plan_at : ℕ → List ℕ → PlanAnswer
-plan_at n [] = plan.Refused n
-plan_at n (k ∷ []) = cond (eqb k 0) plan.Hit plan.Fill
-plan_at n (k ∷ a ∷ vs) = plan.Evict a
+pub plan_one : (p p' : Result Plan Refusal) → told_plan p ≡ told_plan p' → p ≡ p'
+plan_one = told_one plan_values plan_values_one
 
-plan_undone : (p : PlanAnswer) → plan_at (told_plan p).number (told_plan p).values ≡ p
-plan_undone plan.Hit = refl
-plan_undone plan.Fill = refl
-plan_undone (plan.Evict a) = refl
-plan_undone (plan.Refused n) = refl
-
-pub plan_one : (p p' : PlanAnswer) → told_plan p ≡ told_plan p' → p ≡ p'
-plan_one = one_to_one told_plan (λ (t : Told). plan_at t.number t.values) plan_undone
-
-abbrev writeback_at : ℕ → List ℕ → WritebackAnswer
-writeback_at n [] = writeback.Refused n
-writeback_at n (k ∷ []) = writeback.None
-writeback_at n (k ∷ a ∷ vs) = writeback.Evict a
-
-writeback_undone : (w : WritebackAnswer) → writeback_at (told_writeback w).number (told_writeback w).values ≡ w
-writeback_undone writeback.None = refl
-writeback_undone (writeback.Evict a) = refl
-writeback_undone (writeback.Refused n) = refl
-
-pub writeback_one : (w w' : WritebackAnswer) → told_writeback w ≡ told_writeback w' → w ≡ w'
-writeback_one = one_to_one told_writeback (λ (t : Told). writeback_at t.number t.values) writeback_undone
+pub writeback_one : (w w' : Result (Option ℕ) Refusal) → told_writeback w ≡ told_writeback w' → w ≡ w'
+writeback_one = told_one writeback_values writeback_values_one

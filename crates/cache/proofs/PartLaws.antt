@@ -9,7 +9,9 @@ use native.Mathlib.Omega.{arith}
 use lib.Dec.{eqb}
 use lib.ListN.{length}
 use borrow.Author.Tests.{eqb-true}
+use Rattle.std.proofs.Common.{Ok}
 use Rattle.tags.specs.Places.{index_of, start_of}
+use Rattle.cache.specs.Answers.{lent_if}
 use Rattle.cache.specs.Both.{sized}
 
 pub both : (a b : Bool) → (a && b) ≡ true → (a ≡ true) × (b ≡ true)
@@ -22,6 +24,15 @@ unfolding sized
 lengths bytes ls ws e t =
     let p = both (eqb (length ls) bytes) (eqb (length ws) 512) (sym e ∙ t) in
     (eqb-true _ _ p.0, eqb-true _ _ p.1)
+
+-- the test of the lent parts has passed
+pub passed : (b : Bool) (u : Unit {0}) → Ok u ≡ lent_if b → b ≡ true
+passed true u e = refl
+passed false u e = cc
+
+-- and of both, so the bytes of all lines are there
+pub all_there : (bytes : ℕ) (ls ws : List ℕ) (u : Unit {0}) → Ok u ≡ lent_if (sized bytes ls ws) → length ls ≡ bytes
+all_there bytes ls ws u e = (lengths bytes ls ws refl (passed _ u e)).0
 
 -- a line is within 512 of its size
 pub line_inside : (size a : ℕ) → start_of size a + size ≤ 512 * size

@@ -6,15 +6,13 @@ use Prim.Native.Nat.{ℕ}
 use contract.Lifetimes as Lifetimes
 use borrow.Fn.World as World
 use Rattle.bits.proofs.Same.{same}
-use Rattle.cache.specs.declared.answers.Done.{Done}
-use Rattle.cache.specs.declared.answers.Asked.{Asked}
-use Rattle.cache.specs.declared.answers.Value.{Value}
-use Rattle.cache.specs.declared.answers.PlanAnswer.{PlanAnswer}
-use Rattle.cache.specs.declared.answers.WritebackAnswer.{WritebackAnswer}
+use Rattle.std.proofs.Common.{Bool, Option, Result}
+use Rattle.cache.specs.declared.answers.Refusal.{Refusal}
+use Rattle.cache.specs.declared.answers.Plan.{Plan}
 use Rattle.cache.specs.declared.answers.MissPlan.{MissPlan}
-use Rattle.cache.specs.declared.answers.DataWriteback.{DataWriteback}
-use Rattle.cache.specs.declared.answers.InstructionWriteback.{InstructionWriteback}
+use Rattle.cache.specs.declared.answers.Writeback.{Writeback}
 use Rattle.cache.proofs.OneToOne.{done_one, asked_one, value_one, plan_one, writeback_one}
+use Rattle.cache.proofs.answers.Refusal.number.Reads as number
 use Rattle.cache.specs.contracts.dcache.new as data_new
 use Rattle.cache.proofs.dcache.new.Reads as data_new_reads
 use Rattle.cache.specs.contracts.dcache.hits as data_hits
@@ -58,20 +56,20 @@ use Rattle.cache.proofs.icache.flush_hit.Reads as instruction_flush_hit_reads
 use Rattle.cache.specs.contracts.icache.resident_addr as instruction_resident_addr
 use Rattle.cache.proofs.icache.resident_addr.Reads as instruction_resident_addr_reads
 
-abbrev planned : PlanAnswer → List ℕ → MissPlan
+abbrev planned : Result Plan Refusal → List ℕ → MissPlan
 planned a d = record { answer = a; «data» = d }
 
-abbrev flushed : WritebackAnswer → List ℕ → DataWriteback
-flushed a d = record { answer = a; «data» = d }
+abbrev written : {n : ℕ} → Result (Option ℕ) Refusal → List ℕ → Writeback n
+written a d = record { answer = a; «data» = d }
 
-abbrev pushed : WritebackAnswer → List ℕ → InstructionWriteback
-pushed a d = record { answer = a; «data» = d }
+pub number_unique : (a : Refusal × Unit {0}) (r r' : ℕ) → number.Post tt a r a → number.Post tt a r' a → r ≡ r'
+number_unique a r r' = same
 
-pub data_new_unique : (κs : Lifetimes.Lfts 2) (a : World.ArgsD data_new.signature κs) (r r' : Done) (s s' : _)
+pub data_new_unique : (κs : Lifetimes.Lfts 2) (a : World.ArgsD data_new.signature κs) (r r' : Result (Unit {0}) Refusal) (s s' : _)
     → data_new_reads.Post κs a r s → data_new_reads.Post κs a r' s' → (r ≡ r') × (s.0.now ≡ s'.0.now) × (s.1.0.now ≡ s'.1.0.now)
 data_new_unique κs a r r' s s' p q = (done_one r r' (same p.0 q.0), same p.1 q.1, same p.2 q.2)
 
-pub data_hits_unique : (κs : Lifetimes.Lfts 1) (a : World.ArgsD data_hits.signature κs) (r r' : Asked) (s s' : _)
+pub data_hits_unique : (κs : Lifetimes.Lfts 1) (a : World.ArgsD data_hits.signature κs) (r r' : Result Bool Refusal) (s s' : _)
     → data_hits_reads.Post κs a r s → data_hits_reads.Post κs a r' s' → r ≡ r'
 data_hits_unique κs a r r' s s' p q = asked_one r r' (same p q)
 
@@ -80,77 +78,77 @@ pub data_miss_plan_unique : (κs : Lifetimes.Lfts 2) (a : World.ArgsD data_miss_
 data_miss_plan_unique κs a r r' s s' p q =
     ap₂ planned (plan_one r.answer r'.answer (same p.0 q.0)) (same p.1 q.1)
 
-pub data_install_unique : (κs : Lifetimes.Lfts 2) (a : World.ArgsD data_install.signature κs) (r r' : Done) (s s' : _)
+pub data_install_unique : (κs : Lifetimes.Lfts 2) (a : World.ArgsD data_install.signature κs) (r r' : Result (Unit {0}) Refusal) (s s' : _)
     → data_install_reads.Post κs a r s → data_install_reads.Post κs a r' s' → (r ≡ r') × (s.0.now ≡ s'.0.now) × (s.1.0.now ≡ s'.1.0.now)
 data_install_unique κs a r r' s s' p q = (done_one r r' (same p.0 q.0), same p.1 q.1, same p.2 q.2)
 
-pub data_read_unique : (κs : Lifetimes.Lfts 1) (a : World.ArgsD data_read.signature κs) (r r' : Value) (s s' : _)
+pub data_read_unique : (κs : Lifetimes.Lfts 1) (a : World.ArgsD data_read.signature κs) (r r' : Result ℕ Refusal) (s s' : _)
     → data_read_reads.Post κs a r s → data_read_reads.Post κs a r' s' → r ≡ r'
 data_read_unique κs a r r' s s' p q = value_one r r' (same p q)
 
-pub data_write_unique : (κs : Lifetimes.Lfts 2) (a : World.ArgsD data_write.signature κs) (r r' : Done) (s s' : _)
+pub data_write_unique : (κs : Lifetimes.Lfts 2) (a : World.ArgsD data_write.signature κs) (r r' : Result (Unit {0}) Refusal) (s s' : _)
     → data_write_reads.Post κs a r s → data_write_reads.Post κs a r' s' → (r ≡ r') × (s.0.now ≡ s'.0.now) × (s.1.0.now ≡ s'.1.0.now)
 data_write_unique κs a r r' s s' p q = (done_one r r' (same p.0 q.0), same p.1 q.1, same p.2 q.2)
 
-pub data_load_tag_unique : (κs : Lifetimes.Lfts 1) (a : World.ArgsD data_load_tag.signature κs) (r r' : Value) (s s' : _)
+pub data_load_tag_unique : (κs : Lifetimes.Lfts 1) (a : World.ArgsD data_load_tag.signature κs) (r r' : Result ℕ Refusal) (s s' : _)
     → data_load_tag_reads.Post κs a r s → data_load_tag_reads.Post κs a r' s' → r ≡ r'
 data_load_tag_unique κs a r r' s s' p q = value_one r r' (same p q)
 
-pub data_store_tag_unique : (κs : Lifetimes.Lfts 1) (a : World.ArgsD data_store_tag.signature κs) (r r' : Done) (s s' : _)
+pub data_store_tag_unique : (κs : Lifetimes.Lfts 1) (a : World.ArgsD data_store_tag.signature κs) (r r' : Result (Unit {0}) Refusal) (s s' : _)
     → data_store_tag_reads.Post κs a r s → data_store_tag_reads.Post κs a r' s' → (r ≡ r') × (s.0.now ≡ s'.0.now)
 data_store_tag_unique κs a r r' s s' p q = (done_one r r' (same p.0 q.0), same p.1 q.1)
 
-pub data_flush_index_unique : (κs : Lifetimes.Lfts 2) (a : World.ArgsD data_flush_index.signature κs) (r r' : DataWriteback) (s s' : _)
+pub data_flush_index_unique : (κs : Lifetimes.Lfts 2) (a : World.ArgsD data_flush_index.signature κs) (r r' : Writeback 16) (s s' : _)
     → data_flush_index_reads.Post κs a r s → data_flush_index_reads.Post κs a r' s' → (r ≡ r') × (s.1.0.now ≡ s'.1.0.now)
 data_flush_index_unique κs a r r' s s' p q =
-    (ap₂ flushed (writeback_one r.answer r'.answer (same p.0 q.0)) (same p.1 q.1), same p.2 q.2)
+    (ap₂ written (writeback_one r.answer r'.answer (same p.0 q.0)) (same p.1 q.1), same p.2 q.2)
 
-pub data_create_dirty_exclusive_unique : (κs : Lifetimes.Lfts 2) (a : World.ArgsD data_create_dirty_exclusive.signature κs) (r r' : DataWriteback) (s s' : _)
+pub data_create_dirty_exclusive_unique : (κs : Lifetimes.Lfts 2) (a : World.ArgsD data_create_dirty_exclusive.signature κs) (r r' : Writeback 16) (s s' : _)
     → data_create_dirty_exclusive_reads.Post κs a r s → data_create_dirty_exclusive_reads.Post κs a r' s' → (r ≡ r') × (s.1.0.now ≡ s'.1.0.now)
 data_create_dirty_exclusive_unique κs a r r' s s' p q =
-    (ap₂ flushed (writeback_one r.answer r'.answer (same p.0 q.0)) (same p.1 q.1), same p.2 q.2)
+    (ap₂ written (writeback_one r.answer r'.answer (same p.0 q.0)) (same p.1 q.1), same p.2 q.2)
 
-pub data_resident_addr_unique : (κs : Lifetimes.Lfts 1) (a : World.ArgsD data_resident_addr.signature κs) (r r' : Value) (s s' : _)
+pub data_resident_addr_unique : (κs : Lifetimes.Lfts 1) (a : World.ArgsD data_resident_addr.signature κs) (r r' : Result ℕ Refusal) (s s' : _)
     → data_resident_addr_reads.Post κs a r s → data_resident_addr_reads.Post κs a r' s' → r ≡ r'
 data_resident_addr_unique κs a r r' s s' p q = value_one r r' (same p q)
 
-pub instruction_new_unique : (κs : Lifetimes.Lfts 2) (a : World.ArgsD instruction_new.signature κs) (r r' : Done) (s s' : _)
+pub instruction_new_unique : (κs : Lifetimes.Lfts 2) (a : World.ArgsD instruction_new.signature κs) (r r' : Result (Unit {0}) Refusal) (s s' : _)
     → instruction_new_reads.Post κs a r s → instruction_new_reads.Post κs a r' s' → (r ≡ r') × (s.0.now ≡ s'.0.now) × (s.1.0.now ≡ s'.1.0.now)
 instruction_new_unique κs a r r' s s' p q = (done_one r r' (same p.0 q.0), same p.1 q.1, same p.2 q.2)
 
-pub instruction_hits_unique : (κs : Lifetimes.Lfts 1) (a : World.ArgsD instruction_hits.signature κs) (r r' : Asked) (s s' : _)
+pub instruction_hits_unique : (κs : Lifetimes.Lfts 1) (a : World.ArgsD instruction_hits.signature κs) (r r' : Result Bool Refusal) (s s' : _)
     → instruction_hits_reads.Post κs a r s → instruction_hits_reads.Post κs a r' s' → r ≡ r'
 instruction_hits_unique κs a r r' s s' p q = asked_one r r' (same p q)
 
-pub instruction_read_word_unique : (κs : Lifetimes.Lfts 1) (a : World.ArgsD instruction_read_word.signature κs) (r r' : Value) (s s' : _)
+pub instruction_read_word_unique : (κs : Lifetimes.Lfts 1) (a : World.ArgsD instruction_read_word.signature κs) (r r' : Result ℕ Refusal) (s s' : _)
     → instruction_read_word_reads.Post κs a r s → instruction_read_word_reads.Post κs a r' s' → r ≡ r'
 instruction_read_word_unique κs a r r' s s' p q = value_one r r' (same p q)
 
-pub instruction_install_unique : (κs : Lifetimes.Lfts 2) (a : World.ArgsD instruction_install.signature κs) (r r' : Done) (s s' : _)
+pub instruction_install_unique : (κs : Lifetimes.Lfts 2) (a : World.ArgsD instruction_install.signature κs) (r r' : Result (Unit {0}) Refusal) (s s' : _)
     → instruction_install_reads.Post κs a r s → instruction_install_reads.Post κs a r' s' → (r ≡ r') × (s.0.now ≡ s'.0.now) × (s.1.0.now ≡ s'.1.0.now)
 instruction_install_unique κs a r r' s s' p q = (done_one r r' (same p.0 q.0), same p.1 q.1, same p.2 q.2)
 
-pub instruction_load_tag_unique : (κs : Lifetimes.Lfts 1) (a : World.ArgsD instruction_load_tag.signature κs) (r r' : Value) (s s' : _)
+pub instruction_load_tag_unique : (κs : Lifetimes.Lfts 1) (a : World.ArgsD instruction_load_tag.signature κs) (r r' : Result ℕ Refusal) (s s' : _)
     → instruction_load_tag_reads.Post κs a r s → instruction_load_tag_reads.Post κs a r' s' → r ≡ r'
 instruction_load_tag_unique κs a r r' s s' p q = value_one r r' (same p q)
 
-pub instruction_store_tag_unique : (κs : Lifetimes.Lfts 1) (a : World.ArgsD instruction_store_tag.signature κs) (r r' : Done) (s s' : _)
+pub instruction_store_tag_unique : (κs : Lifetimes.Lfts 1) (a : World.ArgsD instruction_store_tag.signature κs) (r r' : Result (Unit {0}) Refusal) (s s' : _)
     → instruction_store_tag_reads.Post κs a r s → instruction_store_tag_reads.Post κs a r' s' → (r ≡ r') × (s.0.now ≡ s'.0.now)
 instruction_store_tag_unique κs a r r' s s' p q = (done_one r r' (same p.0 q.0), same p.1 q.1)
 
-pub instruction_invalidate_index_unique : (κs : Lifetimes.Lfts 1) (a : World.ArgsD instruction_invalidate_index.signature κs) (r r' : Done) (s s' : _)
+pub instruction_invalidate_index_unique : (κs : Lifetimes.Lfts 1) (a : World.ArgsD instruction_invalidate_index.signature κs) (r r' : Result (Unit {0}) Refusal) (s s' : _)
     → instruction_invalidate_index_reads.Post κs a r s → instruction_invalidate_index_reads.Post κs a r' s' → (r ≡ r') × (s.0.now ≡ s'.0.now)
 instruction_invalidate_index_unique κs a r r' s s' p q = (done_one r r' (same p.0 q.0), same p.1 q.1)
 
-pub instruction_hit_invalidate_unique : (κs : Lifetimes.Lfts 1) (a : World.ArgsD instruction_hit_invalidate.signature κs) (r r' : Done) (s s' : _)
+pub instruction_hit_invalidate_unique : (κs : Lifetimes.Lfts 1) (a : World.ArgsD instruction_hit_invalidate.signature κs) (r r' : Result (Unit {0}) Refusal) (s s' : _)
     → instruction_hit_invalidate_reads.Post κs a r s → instruction_hit_invalidate_reads.Post κs a r' s' → (r ≡ r') × (s.0.now ≡ s'.0.now)
 instruction_hit_invalidate_unique κs a r r' s s' p q = (done_one r r' (same p.0 q.0), same p.1 q.1)
 
-pub instruction_flush_hit_unique : (κs : Lifetimes.Lfts 2) (a : World.ArgsD instruction_flush_hit.signature κs) (r r' : InstructionWriteback) (s s' : _)
+pub instruction_flush_hit_unique : (κs : Lifetimes.Lfts 2) (a : World.ArgsD instruction_flush_hit.signature κs) (r r' : Writeback 32) (s s' : _)
     → instruction_flush_hit_reads.Post κs a r s → instruction_flush_hit_reads.Post κs a r' s' → r ≡ r'
 instruction_flush_hit_unique κs a r r' s s' p q =
-    ap₂ pushed (writeback_one r.answer r'.answer (same p.0 q.0)) (same p.1 q.1)
+    ap₂ written (writeback_one r.answer r'.answer (same p.0 q.0)) (same p.1 q.1)
 
-pub instruction_resident_addr_unique : (κs : Lifetimes.Lfts 1) (a : World.ArgsD instruction_resident_addr.signature κs) (r r' : Value) (s s' : _)
+pub instruction_resident_addr_unique : (κs : Lifetimes.Lfts 1) (a : World.ArgsD instruction_resident_addr.signature κs) (r r' : Result ℕ Refusal) (s s' : _)
     → instruction_resident_addr_reads.Post κs a r s → instruction_resident_addr_reads.Post κs a r' s' → r ≡ r'
 instruction_resident_addr_unique κs a r r' s s' p q = value_one r r' (same p q)

@@ -1,60 +1,55 @@
-// What the operations answer. Each may be refused, by the number of the refusal.
+// What the operations answer, and why one is refused.
+ghost use Rattle.std.specs.Prelude.{◌≡◌};
+ghost use Rattle.cache.specs.Answers.{refusal_number};
+ghost use Rattle.cache.specs.declared.answers.Refusal.TheVariants.{Access};
 
-// Nothing to say.
-#[derive(Clone, Copy)]
-pub enum Done {
-    Done,
-    Refused(u8),
+use lines::access;
+
+// A lent part has the wrong length, or the access is none that a line has.
+#[derive(Clone, Copy, PartialEq, Eq)]
+pub enum Refusal {
+    Lent,
+    Access(access::Refusal),
 }
 
-// Yes or no.
-#[derive(Clone, Copy)]
-pub enum Asked {
-    Is(bool),
-    Refused(u8),
+impl Refusal {
+    pub fn number(self) -> u8
+        ensures { result ≡ refusal_number self }
+    {
+        match self {
+            Refusal::Lent => 1,
+            Refusal::Access(refusal) => refusal.number(),
+        }
+    }
 }
 
-// A number.
-#[derive(Clone, Copy)]
-pub enum Value {
-    Of(u64),
-    Refused(u8),
+impl From<access::Refusal> for Refusal {
+    ghost from_gives = { λ r refusal. refusal ≡ Access r };
+
+    fn from(reason: access::Refusal) -> Refusal {
+        Refusal::Access(reason)
+    }
 }
 
 // What an access must do first: nothing, fill the line, or write the line back to an address and then fill it.
-#[derive(Clone, Copy)]
-pub enum PlanAnswer {
+#[derive(Clone, Copy, PartialEq, Eq)]
+pub enum Plan {
     Hit,
     Fill,
     Evict(u32),
-    Refused(u8),
 }
 
-// Whether a line is to be written back, and to which address.
-#[derive(Clone, Copy)]
-pub enum WritebackAnswer {
-    None,
-    Evict(u32),
-    Refused(u8),
-}
-
-// The bytes are those of the line that is evicted, and zero where none is.
+// The bytes are those of the line that is evicted, and zero where none is: `plan_bytes` asks for them beside each answer.
 #[derive(Clone, Copy)]
 pub struct MissPlan {
-    pub answer: PlanAnswer,
+    pub answer: Result<Plan, Refusal>,
     pub data: [u8; 16],
 }
 
-// The same of a line of the data cache.
+// The address that a line of N bytes is written back to, if it is, and its bytes, zero where it is not: `flush_bytes` and
+// `create_bytes` ask for them beside each answer.
 #[derive(Clone, Copy)]
-pub struct DataWriteback {
-    pub answer: WritebackAnswer,
-    pub data: [u8; 16],
-}
-
-// And of the instruction cache.
-#[derive(Clone, Copy)]
-pub struct InstructionWriteback {
-    pub answer: WritebackAnswer,
-    pub data: [u8; 32],
+pub struct Writeback<const N: usize> {
+    pub answer: Result<Option<u32>, Refusal>,
+    pub data: [u8; N],
 }

@@ -1,103 +1,133 @@
 // What both caches do alike: over the size of a line, the bytes of all lines and the PState of a valid line.
-ghost use Rattle.std.specs.Prelude.{◌≡◌, ◌*◌, ◌≤◌, length};
-ghost use Rattle.cache.specs.Answers.{told_done, told_asked, told_value, told_writeback};
-ghost use Rattle.cache.specs.Both.{sized, both_told, fresh_part, install_bytes, install_tags, hits_told, load_told, resident_told, tags_told, store_tags, evicted_if};
+ghost use Rattle.std.specs.Prelude.{◌≡◌, ◌+◌, ◌*◌, ◌%◌, ◌≤◌, length, replicate};
+ghost use Rattle.bits.specs.Told.{refused};
+ghost use Rattle.tags.specs.Places.{tagged};
+ghost use Rattle.cache.specs.Answers.{refusal_number, lent_if, told_done, told_asked, told_value, told_writeback};
+ghost use Rattle.cache.specs.Both.{sized, both_told, fresh_part, install_bytes, install_tags, hits_told, load_told, resident_told, tags_told, store_tags, evicted_if, bytes_if};
 
-use crate::answers::{Asked, Done, Value, WritebackAnswer};
+use crate::answers::{Refusal, Writeback};
 use lines::bytes;
 use tags::{tag_array, tag_word};
 
-// Has each lent part its length? Nothing is touched where one has not.
-pub(crate) fn are_sized(lines: &[u8], tags: &[u32], bytes: usize) -> bool
-    ensures { result ≡ sized bytes lines.now tags.now }
+// Is the array of tag words whole? Nothing is touched where it is not.
+pub(crate) fn check_tags(tags: &[u32]) -> Result<(), Refusal>
+    ensures { result ≡ lent_if (tagged tags.now) }
 {
-    if lines.len() != bytes {
-        return false;
+    if tag_array::is_whole(tags) {
+        Ok(())
+    } else {
+        Err(Refusal::Lent)
     }
-    tag_array::is_whole(tags)
+}
+
+// Has each lent part its length?
+#[tactic(auto, unfolding(crate::specs::Both::sized))]
+pub(crate) fn check_sized<const BYTES: usize>(lines: &[u8], tags: &[u32]) -> Result<(), Refusal>
+    ensures { result ≡ lent_if (sized BYTES lines.now tags.now) }
+{
+    if lines.len() != BYTES {
+        return Err(Refusal::Lent);
+    }
+    check_tags(tags)
 }
 
 // A cache with every line invalid.
-pub(crate) fn fresh(lines: &mut [u8], tags: &mut [u32], bytes: usize) -> Done
-    ensures { (told_done result ≡ both_told bytes lines.old tags.old)
-        × (lines.new ≡ fresh_part bytes lines.old tags.old lines.old)
-        × (tags.new ≡ fresh_part bytes lines.old tags.old tags.old) }
+#[tactic(auto, unfolding(crate::specs::Both::both_told, crate::specs::Both::fresh_part))]
+pub(crate) fn fresh<const BYTES: usize>(lines: &mut [u8], tags: &mut [u32]) -> Result<(), Refusal>
+    ensures { (told_done result ≡ both_told BYTES lines.old tags.old)
+        × (lines.new ≡ fresh_part BYTES lines.old tags.old lines.old)
+        × (tags.new ≡ fresh_part BYTES lines.old tags.old tags.old) }
 {
-    if are_sized(lines, tags, bytes) {
-        bytes::clear(lines);
-        tag_array::clear(tags);
-        return Done::Done;
-    }
-    Done::Refused(1)
+    check_sized::<BYTES>(lines, tags)?;
+    bytes::clear(lines);
+    tag_array::clear(tags);
+    Ok(())
 }
 
 // Puts a line that was read from memory into its place.
-pub(crate) fn install(
+#[tactic(auto, unfolding(crate::specs::Both::both_told, crate::specs::Both::install_bytes, crate::specs::Both::install_tags))]
+pub(crate) fn install<const SIZE: u32, const BYTES: usize>(
     lines: &mut [u8],
     tags: &mut [u32],
     addr: u32,
     line: &[u8],
-    size: u32,
-    bytes: usize,
-) -> Done
-    requires { (length line.now ≡ size) × (512 * size ≤ bytes) }
-    ensures { (told_done result ≡ both_told bytes lines.old tags.old)
-        × (lines.new ≡ install_bytes size bytes lines.old tags.old addr line.now)
-        × (tags.new ≡ install_tags size bytes lines.old tags.old addr) }
+) -> Result<(), Refusal>
+    requires { (length line.now ≡ SIZE) × (512 * SIZE ≤ BYTES) }
+    ensures { (told_done result ≡ both_told BYTES lines.old tags.old)
+        × (lines.new ≡ install_bytes SIZE BYTES lines.old tags.old addr line.now)
+        × (tags.new ≡ install_tags SIZE BYTES lines.old tags.old addr) }
 {
-    if are_sized(lines, tags, bytes) {
-        bytes::copy(lines, tag_array::start(addr, size), line);
-        tag_array::replace(tags, addr, size, tag_word::taken(addr, false));
-        return Done::Done;
-    }
-    Done::Refused(1)
+    check_sized::<BYTES>(lines, tags)?;
+    bytes::copy(lines, tag_array::start(addr, SIZE), line);
+    tag_array::replace(tags, addr, SIZE, tag_word::taken(addr, false));
+    Ok(())
 }
 
-pub(crate) fn hits(tags: &[u32], addr: u32, size: u32) -> Asked
-    ensures { told_asked result ≡ hits_told size tags.now addr }
+#[tactic(auto, unfolding(crate::specs::Both::hits_told))]
+pub(crate) fn hits<const SIZE: u32>(tags: &[u32], addr: u32) -> Result<bool, Refusal>
+    ensures { told_asked result ≡ hits_told SIZE tags.now addr }
 {
-    if tag_array::is_whole(tags) {
-        return Asked::Is(tag_word::is_hit(tag_array::word_for(tags, addr, size), addr));
-    }
-    Asked::Refused(1)
+    check_tags(tags)?;
+    Ok(tag_word::is_hit(tag_array::word_for(tags, addr, SIZE), addr))
 }
 
 // `Index_Load_Tag`.
-pub(crate) fn load_tag(tags: &[u32], addr: u32, size: u32, state: u8) -> Value
-    ensures { told_value result ≡ load_told size state tags.now addr }
+#[tactic(auto, unfolding(crate::specs::Both::load_told))]
+pub(crate) fn load_tag<const SIZE: u32, const STATE: u8>(
+    tags: &[u32],
+    addr: u32,
+) -> Result<u64, Refusal>
+    ensures { told_value result ≡ load_told SIZE STATE tags.now addr }
 {
-    if tag_array::is_whole(tags) {
-        return Value::Of(tag_word::tag_lo(tag_array::word_for(tags, addr, size), state) as u64);
-    }
-    Value::Refused(1)
+    check_tags(tags)?;
+    Ok(tag_word::tag_lo(tag_array::word_for(tags, addr, SIZE), STATE) as u64)
 }
 
 // `Index_Store_Tag`.
-pub(crate) fn store_tag(tags: &mut [u32], addr: u32, tag_lo: u32, size: u32, state: u8) -> Done
-    ensures { (told_done result ≡ tags_told tags.old) × (tags.new ≡ store_tags size state tags.old addr tag_lo) }
+#[tactic(auto, unfolding(crate::specs::Both::tags_told, crate::specs::Both::store_tags))]
+pub(crate) fn store_tag<const SIZE: u32, const STATE: u8>(
+    tags: &mut [u32],
+    addr: u32,
+    tag_lo: u32,
+) -> Result<(), Refusal>
+    ensures { (told_done result ≡ tags_told tags.old) × (tags.new ≡ store_tags SIZE STATE tags.old addr tag_lo) }
 {
-    if tag_array::is_whole(tags) {
-        tag_array::replace(tags, addr, size, tag_word::stored(tag_lo, state));
-        return Done::Done;
-    }
-    Done::Refused(1)
+    check_tags(tags)?;
+    tag_array::replace(tags, addr, SIZE, tag_word::stored(tag_lo, STATE));
+    Ok(())
 }
 
-pub(crate) fn resident_addr(tags: &[u32], i: usize, start: usize) -> Value
-    ensures { told_value result ≡ resident_told tags.now i start }
+// The address that line `index`, modulo 512, came from.
+#[tactic(auto, unfolding(crate::specs::Both::resident_told))]
+pub(crate) fn resident_addr<const SIZE: u32>(tags: &[u32], index: usize) -> Result<u64, Refusal>
+    ensures { told_value result ≡ resident_told tags.now (index % 512) (index % 512 * SIZE) }
 {
-    if tag_array::is_whole(tags) {
-        return Value::Of(tag_word::resident(tag_array::word_at(tags, i), start) as u64);
-    }
-    Value::Refused(1)
+    check_tags(tags)?;
+    let i = index % 512;
+    Ok(tag_word::resident(tag_array::word_at(tags, i), i * SIZE as usize) as u64)
 }
 
-// What is told of a line that goes to memory, or stays.
-pub(crate) fn evicted(goes: bool, word: u32, start: usize) -> WritebackAnswer
-    ensures { told_writeback result ≡ evicted_if goes word start }
+// The line that starts there, if it goes to memory.
+pub(crate) fn writeback<const N: usize>(
+    lines: &[u8],
+    word: u32,
+    start: usize,
+    goes: bool,
+) -> Writeback<N>
+    requires { start + N ≤ length lines.now }
+    ensures { (told_writeback result.answer ≡ evicted_if goes word start) × (result.«data» ≡ bytes_if N goes lines.now start) }
 {
-    if goes {
-        return WritebackAnswer::Evict(tag_word::resident(word, start));
+    Writeback {
+        answer: Ok(goes.then_some(tag_word::resident(word, start))),
+        data: bytes::line(lines, start, goes),
     }
-    WritebackAnswer::None
+}
+
+pub(crate) fn refused_writeback<const N: usize>(refusal: Refusal) -> Writeback<N>
+    ensures { (told_writeback result.answer ≡ refused (refusal_number refusal)) × (result.«data» ≡ replicate N 0) }
+{
+    Writeback {
+        answer: Err(refusal),
+        data: [0; N],
+    }
 }

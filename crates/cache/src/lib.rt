@@ -6,6 +6,4 @@ mod both;
 pub mod dcache;
 pub mod icache;
 
-pub use answers::{
-    Asked, DataWriteback, Done, InstructionWriteback, MissPlan, PlanAnswer, Value, WritebackAnswer,
-};
+pub use answers::{MissPlan, Plan, Refusal, Writeback};

@@ -14,8 +14,7 @@ use contract.Lifetimes as Lifetimes
 use borrow.Fn.World as World
 use Rattle.bits.specs.Told.{answered}
 use Rattle.bits.proofs.Tables.{at_each}
-use Rattle.digits.specs.declared.reading.Number.{Number}
-use Rattle.digits.specs.declared.reading.Number.TheVariants.{Value}
+use Rattle.std.proofs.Common.{Option, Some}
 use Rattle.digits.specs.Reading.{within, is_digit, worth, all_digits, value_of, number_told}
 use Rattle.digits.specs.Writing.{lowercase_of, is_lowercase, place_of, digits_of, has_room, put_of}
 use Rattle.digits.proofs.Answers.{number_one}
@@ -106,9 +105,9 @@ module _ (κs : Lifetimes.Lfts 1) (a : World.ArgsD put.signature κs) where
   pub parse_of_put : 1 ≤ width → width ≤ 16 → value < 16 ^ width
       → (s : _) → put_reads.Post κs a true s
       → (κs' : Lifetimes.Lfts 1) (b : World.ArgsD parse.signature κs') → b.0.now ≡ take width (drop place s.0.now)
-      → (n : Number) (s' : _) → parse_reads.Post κs' b n s' → n ≡ Value value
+      → (n : Option ℕ) (s' : _) → parse_reads.Post κs' b n s' → n ≡ Some value
   unfolding has_room
   parse_of_put l m small s p κs' b word n s' q =
       let room : place + width ≤ length a.0.now = leb-true _ _ (sym p.0) in
       let read : b.0.now ≡ digits_of width value = word ∙ rw p.1 (written a.0.now place width value room) in
-      number_one n (Value value) (q ∙ ap number_told read ∙ number_back width value l m small)
+      number_one n (Some value) (q ∙ ap number_told read ∙ number_back width value l m small)

@@ -5,9 +5,8 @@ use mathlib.Core.Bool.{Bool}
 use Prim.Native.Nat.{ℕ}
 use contract.Lifetimes as Lifetimes
 use borrow.Fn.World as World
+use Rattle.std.proofs.Common.{Option}
 use Rattle.bits.proofs.Same.{same}
-use Rattle.digits.specs.declared.reading.DigitAnswer.{DigitAnswer}
-use Rattle.digits.specs.declared.reading.Number.{Number}
 use Rattle.digits.proofs.Answers.{digit_one, number_one}
 use Rattle.digits.proofs.reading.digit.Reads as digit
 use Rattle.digits.specs.contracts.reading.parse as parse
@@ -15,10 +14,10 @@ use Rattle.digits.proofs.reading.parse.Reads as parse_reads
 use Rattle.digits.specs.contracts.writing.put as put
 use Rattle.digits.proofs.writing.put.Reads as put_reads
 
-pub digit_unique : (a : ℕ × Unit {0}) (r r' : DigitAnswer) → digit.Post tt a r a → digit.Post tt a r' a → r ≡ r'
+pub digit_unique : (a : ℕ × Unit {0}) (r r' : Option ℕ) → digit.Post tt a r a → digit.Post tt a r' a → r ≡ r'
 digit_unique a r r' p q = digit_one r r' (same p q)
 
-pub parse_unique : (κs : Lifetimes.Lfts 1) (a : World.ArgsD parse.signature κs) (r r' : Number) (s s' : _)
+pub parse_unique : (κs : Lifetimes.Lfts 1) (a : World.ArgsD parse.signature κs) (r r' : Option ℕ) (s s' : _)
     → parse_reads.Post κs a r s → parse_reads.Post κs a r' s' → r ≡ r'
 parse_unique κs a r r' s s' p q = number_one r r' (same p q)
 

@@ -4,5 +4,5 @@
 mod reading;
 mod writing;
 
-pub use reading::{DigitAnswer, Number, digit, parse};
+pub use reading::{digit, parse};
 pub use writing::put;

@@ -1,63 +1,34 @@
 // Digits that are read.
 ghost use Rattle.std.specs.Prelude.{◌≡◌};
-ghost use Rattle.digits.specs.Reading.{within, digit_told, number_told};
+ghost use Rattle.digits.specs.Reading.{digit_told, number_told};
 ghost use Rattle.digits.specs.Answers.{told_digit, told_number};
 
-// A digit's value, if the byte is one.
-#[derive(Clone, Copy)]
-pub enum DigitAnswer {
-    Of(u8),
-    None,
-}
-
-// A word's number, if it writes one.
-#[derive(Clone, Copy)]
-pub enum Number {
-    Value(u64),
-    Bad,
-}
-
-// A digit's value, in either letter case.
-pub fn digit(b: u8) -> DigitAnswer
+// A digit's value, in either letter case, if the byte is one.
+#[tactic(auto, unfolding(crate::specs::Reading::digit_told, crate::specs::Reading::is_digit, crate::specs::Reading::worth, crate::specs::Reading::within))]
+pub fn digit(b: u8) -> Option<u8>
     ensures { told_digit result ≡ digit_told b }
 {
-    if is_within(b'0', b'9', b) {
-        return DigitAnswer::Of(b - b'0');
+    match b {
+        b'0'..=b'9' => Some(b - b'0'),
+        b'A'..=b'F' => Some(b - b'A' + 10),
+        b'a'..=b'f' => Some(b - b'a' + 10),
+        _ => None,
     }
-    if is_within(b'A', b'F', b) {
-        return DigitAnswer::Of(b - b'A' + 10);
-    }
-    if is_within(b'a', b'f', b) {
-        return DigitAnswer::Of(b - b'a' + 10);
-    }
-    DigitAnswer::None
 }
 
-// The number that a word writes: 1 to 16 digits, the first the highest.
-pub fn parse(word: &[u8]) -> Number
+// The number that a word writes, if it writes one: 1 to 16 digits, the first the highest.
+pub fn parse(word: &[u8]) -> Option<u64>
     ensures { told_number result ≡ number_told word.now }
 {
     if word.len() < 1 {
-        return Number::Bad;
+        return None;
     }
     if 16 < word.len() {
-        return Number::Bad;
+        return None;
     }
     let mut value: u64 = 0;
-    let mut i = 0;
-    while i < word.len() {
-        let next = digit(word[i]);
-        let DigitAnswer::Of(d) = next else {
-            return Number::Bad;
-        };
-        value = value * 16 + d as u64;
-        i += 1;
+    for b in word {
+        value = value * 16 + digit(*b)? as u64;
     }
-    Number::Value(value)
-}
-
-fn is_within(first: u8, last: u8, b: u8) -> bool
-    ensures { result ≡ within first last b }
-{
-    first <= b && b <= last
+    Some(value)
 }

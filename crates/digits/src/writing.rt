@@ -14,10 +14,8 @@ pub fn put(out: &mut [u8], at: usize, width: usize, value: u64) -> bool
     if out.len() - at < width {
         return false;
     }
-    let mut i = 0;
-    while i < width {
+    for i in 0..width {
         out[at + i] = place(value, width - i - 1);
-        i += 1;
     }
     true
 }
@@ -33,6 +31,7 @@ fn place(value: u64, k: usize) -> u8
     lowercase(bits::field(value, low + 3, low) as u8)
 }
 
+#[tactic(auto, unfolding(crate::specs::Writing::lowercase_of))]
 fn lowercase(d: u8) -> u8
     requires { d < 16 }
     ensures { result ≡ lowercase_of d }

@@ -5,7 +5,10 @@ use Prim.Native.Nat.{ℕ, ◌+◌, ◌%◌, ◌<◌, ◌≤◌}
 use native.Mathlib.Omega.{arith}
 use lib.Dec.{leb}
 use borrow.Author.Tests.{leb-true, le-leb, lt-leb}
-use Rattle.lines.specs.Access.{access_refusal}
+use Rattle.std.proofs.Common.{Result, Ok, Err}
+use Rattle.lines.specs.Access.{access_refusal, check_number}
+use Rattle.lines.specs.declared.access.Refusal.{Refusal}
+use Rattle.lines.specs.declared.access.Refusal.TheVariants.{Length, Crossing}
 
 -- the tests of an access, in their order
 module _ (a len : ℕ) where
@@ -36,3 +39,15 @@ module _ (a len : ℕ) where
       go true true false p q e = absurd (omega arith)
       go true false z p q e = absurd (omega arith)
       go false y z p q e = absurd (omega arith)
+
+-- a check's number tells what it answers
+pub check_one : (r r' : Result (Unit {0}) Refusal) → check_number r ≡ check_number r' → r ≡ r'
+check_one (Ok u) (Ok u') e = refl
+check_one (Ok u) (Err Length) e = absurd (omega arith)
+check_one (Ok u) (Err Crossing) e = absurd (omega arith)
+check_one (Err Length) (Ok u) e = absurd (omega arith)
+check_one (Err Length) (Err Length) e = refl
+check_one (Err Length) (Err Crossing) e = absurd (omega arith)
+check_one (Err Crossing) (Ok u) e = absurd (omega arith)
+check_one (Err Crossing) (Err Length) e = absurd (omega arith)
+check_one (Err Crossing) (Err Crossing) e = refl

@@ -1,14 +1,14 @@
 -- Lent bytes: places within them, copies, and bytes joined to a number one by one.
 use mathlib.Core.Path.{◌≡◌, refl, ap, sym, ◌∙◌}
 use mathlib.Core.Bool.{Bool, true, false, cond}
-use mathlib.Core.List.{List, [], ◌∷◌, append-nil}
+use mathlib.Core.List.{List, [], ◌∷◌}
 use Prim.Native.Nat.{ℕ, zero, suc, ◌+◌, ◌-◌, ◌*◌, ◌^◌, ◌<◌, ◌≤◌}
-use native.Mathlib.Nat.{zero-add, pow-suc, pow-le-pow_right, min-le_left}
+use native.Mathlib.Nat.{pow-suc, pow-le-pow_right}
 use native.Mathlib.Numerals.{add-one}
 use native.Mathlib.Omega.{arith}
 use lib.Dec.{leb}
-use lib.ListN.{length, get_or, take, drop, replicate, length-drop, length-take, drop_of_length-le}
-use lib.Seq.{length-take-le, paste, drop-cons, take_all}
+use lib.ListN.{length, get_or, take, drop, replicate, length-drop, drop_of_length-le}
+use lib.Seq.{paste, drop-cons, take_all}
 use borrow.Author.Tests.{leb-true, leb-false, le-leb, lt-leb}
 use Rattle.lines.specs.Bytes.{joined, big_endian, eight, bytes_of, copied, line_if, number_at, number_put}
 
@@ -90,27 +90,6 @@ pub part_is : (s : List ℕ) (at n : ℕ) → take (at + n - at) (drop at s) ≡
 part_is s at n =
     let all : at + n - at ≡ n = omega arith in
     rw all
-
-pub part_length : (s : List ℕ) (at n : ℕ) → length (take (at + n - at) (drop at s)) ≤ n
-part_length s at n =
-    let all : at + n - at ≡ n = omega arith in
-    rw (all, length-take n (drop at s)) (min-le_left n (length (drop at s)))
-
--- a copy over all of d leaves nothing of it
-pub pasted_whole : (d s : List ℕ) (n : ℕ) → length d ≡ n → length s ≡ n → paste d 0 s n ≡ s
-pasted_whole d s n hd hs =
-    let past : length d ≤ n = omega arith in
-    rw (zero-add n, take_all n s (omega arith), drop_of_length-le d past) (append-nil s)
-
--- n bytes of s, copied over as many
-pub line_copied : (d s : List ℕ) (at n : ℕ) → length d ≡ n → at + n ≤ length s → copied d 0 (take (at + n - at) (drop at s)) ≡ line_if n true s at
-line_copied d s at n hd hs =
-    let part : List ℕ = take n (drop at s) in
-    let long : length part ≡ n = length-take-le n (drop at s) (omega (arith, length-drop at s)) in
-    ap (copied d 0) (part_is s at n)
-    ∙ copied_is d 0 n (omega arith) part long
-    ∙ pasted_whole d part n hd long
-    ∙ sym (line_is s at n hs)
 
 -- the last len of eight bytes, copied to a place
 pub tail_copied : (l s : List ℕ) (at len v : ℕ) → s ≡ eight v → len ≤ 8

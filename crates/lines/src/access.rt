@@ -1,19 +1,36 @@
 // An access to a line of the data cache: one to eight bytes, which stay within the line.
 ghost use Rattle.std.specs.Prelude.{◌≡◌};
-ghost use Rattle.lines.specs.Access.{access_refusal};
+ghost use Rattle.lines.specs.Access.{access_refusal, refusal_number, check_number};
 
-// The number of its refusal, or 0.
-pub fn refusal(addr: u32, len: usize) -> u8
-    ensures { result ≡ access_refusal addr len }
+// Why an access is refused: it has no byte or more than eight, or it leaves its line.
+#[derive(Clone, Copy, PartialEq, Eq)]
+pub enum Refusal {
+    Length,
+    Crossing,
+}
+
+impl Refusal {
+    pub fn number(self) -> u8
+        ensures { result ≡ refusal_number self }
+    {
+        match self {
+            Refusal::Length => 2,
+            Refusal::Crossing => 3,
+        }
+    }
+}
+
+pub fn check(addr: u32, len: usize) -> Result<(), Refusal>
+    ensures { check_number result ≡ access_refusal addr len }
 {
     if len < 1 {
-        return 2;
+        return Err(Refusal::Length);
     }
     if 8 < len {
-        return 2;
+        return Err(Refusal::Length);
     }
     if 16 < (addr % 16) as usize + len {
-        return 3;
+        return Err(Refusal::Crossing);
     }
-    0
+    Ok(())
 }

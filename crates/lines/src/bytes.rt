@@ -5,53 +5,28 @@ ghost use Rattle.lines.specs.Bytes.{big_endian, eight, copied, line_if, number_a
 pub fn clear(lines: &mut [u8])
     ensures { lines.new ≡ replicate (length lines.old) 0 }
 {
-    let mut i = 0;
-    while i < lines.len() {
-        lines[i] = 0;
-        i += 1;
-    }
+    lines.fill(0);
 }
 
 // Copies `bytes` to a place; all else stays as it was.
 pub fn copy(lines: &mut [u8], at: usize, bytes: &[u8])
     ensures { lines.new ≡ copied lines.old at bytes.now }
 {
-    if !within(lines.len(), at, bytes.len()) {
-        return;
-    }
-    let mut i = 0;
-    while i < bytes.len() {
-        lines[at + i] = bytes[i];
-        i += 1;
+    if within(lines.len(), at, bytes.len()) {
+        lines[at..at + bytes.len()].copy_from_slice(bytes);
     }
 }
 
-// A line of the data cache, if it is asked for; zeros if not.
-pub fn line16(lines: &[u8], at: usize, asked: bool) -> [u8; 16]
-    ensures { result ≡ line_if 16 asked lines.now at }
+// A line, if it is asked for; zeros if not.
+pub fn line<const N: usize>(lines: &[u8], at: usize, asked: bool) -> [u8; N]
+    ensures { result ≡ line_if N asked lines.now at }
 {
-    let mut line = [0u8; 16];
+    let mut line = [0; N];
     if !asked {
         return line;
     }
-    if within(lines.len(), at, 16) {
-        copy(&mut line, 0, &lines[at..at + 16]);
-        return line;
-    }
-    line
-}
-
-// A line of the instruction cache, if it is asked for; zeros if not.
-pub fn line32(lines: &[u8], at: usize, asked: bool) -> [u8; 32]
-    ensures { result ≡ line_if 32 asked lines.now at }
-{
-    let mut line = [0u8; 32];
-    if !asked {
-        return line;
-    }
-    if within(lines.len(), at, 32) {
-        copy(&mut line, 0, &lines[at..at + 32]);
-        return line;
+    if within(lines.len(), at, N) {
+        line.copy_from_slice(&lines[at..at + N]);
     }
     line
 }
@@ -126,10 +101,8 @@ fn joined_each(bytes: &[u8]) -> u64
     ensures { result ≡ big_endian bytes.now }
 {
     let mut value: u64 = 0;
-    let mut i = 0;
-    while i < bytes.len() {
-        value = value * 256 + bytes[i] as u64;
-        i += 1;
+    for b in bytes {
+        value = value * 256 + *b as u64;
     }
     value
 }
@@ -137,14 +110,5 @@ fn joined_each(bytes: &[u8]) -> u64
 fn eight_bytes(value: u64) -> [u8; 8]
     ensures { result ≡ eight value }
 {
-    [
-        bits::field(value, 63, 56) as u8,
-        bits::field(value, 55, 48) as u8,
-        bits::field(value, 47, 40) as u8,
-        bits::field(value, 39, 32) as u8,
-        bits::field(value, 31, 24) as u8,
-        bits::field(value, 23, 16) as u8,
-        bits::field(value, 15, 8) as u8,
-        bits::field(value, 7, 0) as u8,
-    ]
+    value.to_be_bytes()
 }

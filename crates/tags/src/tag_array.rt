@@ -33,10 +33,7 @@ pub fn start(addr: u32, size: u32) -> usize
 pub fn word_at(tags: &[u32], i: usize) -> u32
     ensures { result ≡ word_at tags.now i }
 {
-    if i < tags.len() {
-        return tags[i];
-    }
-    0
+    tags.get(i).copied().unwrap_or(0)
 }
 
 // The word of the line of an address.
@@ -51,18 +48,14 @@ pub fn replace(tags: &mut [u32], addr: u32, size: u32, word: u32)
     ensures { tags.new ≡ tags_with size tags.old addr word }
 {
     let i = index(addr, size);
-    if tags.len() <= i {
-        return;
+    // Of `get_mut` no contract says what the array holds afterwards.
+    if i < tags.len() {
+        tags[i] = word;
     }
-    tags[i] = word;
 }
 
 pub fn clear(tags: &mut [u32])
     ensures { tags.new ≡ replicate (length tags.old) 0 }
 {
-    let mut i = 0;
-    while i < tags.len() {
-        tags[i] = 0;
-        i += 1;
-    }
+    tags.fill(0);
 }

@@ -5,6 +5,7 @@ ghost use Rattle.tags.specs.Words.{tag_of, word_tag, is_valid, is_dirty, word_of
 ghost use Rattle.tags.specs.Places.{resident_of};
 
 // Does the line with this word hold the address? Below the dirty flag the word is then that of a line which the address has taken.
+#[tactic(auto, using(crate::proofs::WordLaws::hit_at_once))]
 pub fn is_hit(word: u32, addr: u32) -> bool
     ensures { result ≡ hit_of word addr }
 {
@@ -12,23 +13,19 @@ pub fn is_hit(word: u32, addr: u32) -> bool
 }
 
 // Has the line bytes that memory does not? Then it is written back when it goes.
+#[tactic(auto, unfolding(crate::specs::Words::leaves_of))]
 pub fn leaves(word: u32) -> bool
     ensures { result ≡ leaves_of word }
 {
-    if valid(word) {
-        return dirty(word);
-    }
-    false
+    valid(word) && dirty(word)
 }
 
 // Does it leave for another address?
+#[tactic(auto, unfolding(crate::specs::Words::displaced_of))]
 pub fn displaced(word: u32, addr: u32) -> bool
     ensures { result ≡ displaced_of word addr }
 {
-    if leaves(word) {
-        return tag(word) != tag_of(addr);
-    }
-    false
+    leaves(word) && tag(word) != tag_of(addr)
 }
 
 // Where the line with this word came from: a write-back goes there, and not to the address that evicts it.
@@ -73,6 +70,7 @@ pub fn flushed(old: u32, invalidate: bool, clean: bool) -> u32
 }
 
 // TagLo of a line. Dirty has no place in it, so a clean line and a dirty one load alike.
+#[tactic(auto, unfolding(crate::specs::Words::tag_lo_of))]
 pub fn tag_lo(word: u32, state: u8) -> u32
     ensures { result ≡ tag_lo_of state word }
 {
@@ -83,6 +81,7 @@ pub fn tag_lo(word: u32, state: u8) -> u32
 }
 
 // The word that a TagLo stores: valid for the cache's own PState, and for no other.
+#[tactic(auto, unfolding(crate::specs::Words::stored_of))]
 pub fn stored(tag_lo: u32, state: u8) -> u32
     ensures { result ≡ stored_of state tag_lo }
 {

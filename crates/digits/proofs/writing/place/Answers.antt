@@ -1,8 +1,5 @@
 -- `writing::place` reads a digit as four bits of the word.
 use mathlib.Core.Path.{ap, sym, ◌∙◌}
-use Prim.Native.Nat.{◌/◌, ◌^◌}
-use native.Mathlib.Nat.{mod-lt}
-use native.Mathlib.Omega.{arith}
 use borrow.Author.Rules.{rules}
 use Rattle.digits.specs.Writing.{lowercase_of, place_of}
 use Rattle.digits.proofs.WritingLaws.{field_is, zero_above}
@@ -10,12 +7,6 @@ use Rattle.digits.proofs.writing.place.Goals as goal
 
 pub returns-then-k-gt15 : goal.returns-then-k-gt15
 returns-then-k-gt15 c = sym (zero_above _ _ (search rules) c.if-k-gt15.true)
-
--- four bits are below 16
-pub lowercase-requires : goal.lowercase-requires
-lowercase-requires c =
-    let a = c.args in
-    rw (c.field.ensures, field_is a.value a.k) (mod-lt (a.value / 16 ^ a.k) {m = 16} (omega arith))
 
 pub returns : goal.returns
 unfolding place_of

@@ -2,7 +2,7 @@
 use mathlib.Core.Path.{◌≡◌, sym, ◌∙◌}
 use native.Mathlib.Omega.{arith}
 use native.Mathlib.Numerals.{add-one}
-use lib.Seq.{paste-zero, paste-suc}
+use lib.Seq.{paste-suc}
 use borrow.Author.Rules.{rules}
 use Rattle.digits.specs.Writing.{digits_of}
 use Rattle.digits.proofs.WritingLaws.{digits_length, digit_at, room, no_room, put_there, put_nowhere}
@@ -18,19 +18,13 @@ returns-then-out-at-2 c =
     let a = c.args in
     (sym (no_room _ a.at a.width (omega arith)), sym (put_nowhere _ a.at a.width a.value (omega arith)))
 
-pub loop-i-init : goal.loop-i-init
-loop-i-init c =
-    let a = c.args in
-    (search rules, search rules, paste-zero a.out.now a.at (digits_of a.width a.value))
-
 pub loop-i-preserved : goal.loop-i-preserved
 loop-i-preserved c =
     let l = c.loop-i in
     let a = c.args in
     let all = digits_length a.width a.value in (
       search rules,
-      search rules,
-      rw (l.invariant.2, add-one, c.place.ensures, ← digit_at a.width a.value l.i (search rules))
+      rw (l.invariant.1, add-one, c.place.ensures, ← digit_at a.width a.value l.i (omega arith))
           (paste-suc a.out.now a.at (digits_of a.width a.value) l.i 0 (omega arith) (omega arith)),
     )
 
@@ -40,5 +34,5 @@ returns c =
     let a = c.args in
     let all : l.i ≡ a.width = omega arith in (
       sym (room _ a.at a.width (omega arith)),
-      (rw all at l.invariant.2) ∙ sym (put_there _ a.at a.width a.value (omega arith)),
+      (rw all at l.invariant.1) ∙ sym (put_there _ a.at a.width a.value (omega arith)),
     )

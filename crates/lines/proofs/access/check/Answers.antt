@@ -1,7 +1,7 @@
--- `access::refusal` makes the tests in their order.
+-- `access::check` makes the tests in their order.
 use mathlib.Core.Path.{sym}
 use Rattle.lines.proofs.AccessLaws.{too_short, too_long, past_the_line, not_refused}
-use Rattle.lines.proofs.access.refusal.Goals as goal
+use Rattle.lines.proofs.access.check.Goals as goal
 
 pub returns-then-len-lt1 : goal.returns-then-len-lt1
 returns-then-len-lt1 c = sym (too_short _ _ c.if-len-lt1.true)
