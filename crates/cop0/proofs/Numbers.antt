@@ -1,5 +1,5 @@
 -- The lists of register numbers, as tests.
-use Rattle.std.proofs.Common.{◌≡◌, ℕ, ◌<◌, Bool, not, ◌&&◌, ◌||◌, eqb, leb, refl}
+use Rattle.std.proofs.Common.{◌≡◌, ℕ, ◌<◌, not, eqb, refl}
 use Rattle.bits.specs.Field.{field_of}
 use Rattle.bits.proofs.Tables.{agree}
 use Rattle.cop0.specs.Registers.{named, among, wide, unused}
@@ -8,14 +8,6 @@ use Rattle.cop0.specs.Registers.{named, among, wide, unused}
 pub wide_bits : (k : ℕ) → k < 32 → eqb (field_of 0x4010_451C k k) 1 ≡ wide k
 unfolding wide among
 wide_bits = agree 32 (λ k. eqb (field_of 0x4010_451C k k) 1) wide refl
-
--- 7, 31, and 21 to 25
-abbrev pub listed : ℕ → Bool
-listed k = eqb k 7 || (eqb k 31 || leb 21 k && leb k 25)
-
-pub unused_listed : (k : ℕ) → k < 32 → listed k ≡ unused k
-unfolding unused among
-unused_listed = agree 32 listed unused refl
 
 -- a register has a name, or is unused
 pub named_or_unused : (k : ℕ) → k < 32 → among named k ≡ not (unused k)

@@ -24,17 +24,11 @@ impl Cop0 {
         ensures { result ≡ interrupt_pending_of self }
     {
         let status = self.reg(Self::STATUS);
-        if bits::field(status, 0, 0) != 1 {
-            return false;
-        }
-        if bits::field(status, 1, 1) != 0 {
-            return false;
-        }
-        if bits::field(status, 2, 2) != 0 {
-            return false;
-        }
         let ip = bits::field(self.reg(Self::CAUSE), 15, 8);
         let im = bits::field(status, 15, 8);
-        ip & im != 0
+        bits::field(status, 0, 0) == 1
+            && bits::field(status, 1, 1) == 0
+            && bits::field(status, 2, 2) == 0
+            && ip & im != 0
     }
 }

@@ -250,17 +250,11 @@ impl Cop0 {
     }
 
     // Is this one of the `UNUSED` numbers?
+    #[tactic(auto, unfolding(crate::specs::Registers::unused, crate::specs::Registers::among))]
     pub fn is_unused(n: u8) -> bool
         ensures { result ≡ unused (n % 32) }
     {
-        let k = n % 32;
-        if k == 7 {
-            return true;
-        }
-        if k == 31 {
-            return true;
-        }
-        21 <= k && k <= 25
+        matches!(n % 32, 7 | 21..=25 | 31)
     }
 
     // A register's architectural value.
@@ -334,6 +328,7 @@ impl Cop0 {
     }
 
     #[tactic(auto, unfolding(crate::specs::Registers::write_mask))]
+    // Beside `arch_mask`, and no function of both tables: each contract names the manual's own table.
     fn write_mask(n: u8) -> u64
         ensures { result ≡ write_mask (n % 32) }
     {

@@ -1,5 +1,5 @@
 // Cause.ExcCode's values (table 6-2): the whole list, with those that this machine cannot reach, so that a value read out of
-// Cause can always be named.
+// Cause can always be named. Numbers by name and no enum, as in the Rust original: a value read out of Cause may be none of them.
 
 // Interrupt.
 pub const INT: u64 = 0;

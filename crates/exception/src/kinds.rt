@@ -47,32 +47,19 @@ pub fn exc_code_of(exc: Exception) -> u64
 {
     match exc {
         Exception::Interrupt => exc_code::INT,
-        Exception::AddressError { store } => {
-            if store {
-                return exc_code::ADES;
-            }
-            exc_code::ADEL
-        }
+        Exception::AddressError { store: true } => exc_code::ADES,
+        Exception::AddressError { store: false } => exc_code::ADEL,
         Exception::Overflow => exc_code::OV,
         Exception::Syscall => exc_code::SYS,
         Exception::Breakpoint => exc_code::BP,
         Exception::Trap => exc_code::TR,
-        Exception::ReservedInstruction => exc_code::RI,
-        Exception::CoprocessorReserved { .. } => exc_code::RI,
+        Exception::ReservedInstruction | Exception::CoprocessorReserved { .. } => exc_code::RI,
         Exception::CoprocessorUnusable { .. } => exc_code::CPU,
         Exception::Nmi => exc_code::INT,
-        Exception::TlbRefill { store, .. } => {
-            if store {
-                return exc_code::TLBS;
-            }
-            exc_code::TLBL
-        }
-        Exception::TlbInvalid { store } => {
-            if store {
-                return exc_code::TLBS;
-            }
-            exc_code::TLBL
-        }
+        Exception::TlbRefill { store: true, .. } | Exception::TlbInvalid { store: true } =>
+            exc_code::TLBS,
+        Exception::TlbRefill { store: false, .. } | Exception::TlbInvalid { store: false } =>
+            exc_code::TLBL,
         Exception::TlbModified => exc_code::MOD,
         Exception::FloatingPoint => exc_code::FPE,
     }
@@ -85,12 +72,8 @@ pub fn vector_kind_of(exc: Exception) -> VectorKind
 {
     match exc {
         Exception::Nmi => VectorKind::Reset,
-        Exception::TlbRefill { wide, .. } => {
-            if wide {
-                return VectorKind::XtlbRefill;
-            }
-            VectorKind::TlbRefill
-        }
+        Exception::TlbRefill { wide: true, .. } => VectorKind::XtlbRefill,
+        Exception::TlbRefill { wide: false, .. } => VectorKind::TlbRefill,
         Exception::Interrupt
         | Exception::AddressError { .. }
         | Exception::Overflow
