@@ -9,7 +9,7 @@ use native.Mathlib.Omega.{arith}
 use lib.ListN.{length, get_or, take, drop, replicate, length-drop, drop_of_length-le}
 use lib.Seq.{paste, drop-cons}
 use borrow.Author.Tests.{le-leb}
-use Rattle.lines.specs.Bytes.{joined, big_endian, eight, bytes_of, copied, line_if, number_at, number_put}
+use Rattle.lines.specs.Bytes.{joined, big_endian, eight, bytes_of, copied, line_if, number_put}
 
 -- within a lent part, the total definitions are the plain ones
 module _ (ls : List ℕ) (at n : ℕ) (h : at + n ≤ length ls) where
@@ -25,10 +25,6 @@ module _ (ls : List ℕ) (at n : ℕ) (h : at + n ≤ length ls) where
   unfolding line_if
   line_if_lem true = line_is
   line_if_lem false = refl
-
-  pub number_is : n ≤ 8 → number_at ls at n ≡ big_endian (take n (drop at ls))
-  unfolding number_at
-  number_is k = rw (le-leb n 8 k, le-leb (at + n) (length ls) h)
 
   pub put_is : n ≤ 8 → (v : ℕ) → number_put ls at n v ≡ paste ls at (bytes_of n v) n
   unfolding number_put

@@ -93,7 +93,7 @@ fn four(a: u8, b: u8, c: u8, d: u8) -> u64
     u32::from_be_bytes([a, b, c, d]) as u64
 }
 
-// Two halves of a word.
+// Two halves of a word: `u64::from_be_bytes` would want all eight bytes written out again.
 fn both(high: u64, low: u64) -> u64
     requires { (high < 2 ^ 32) × (low < 2 ^ 32) }
     ensures { result ≡ high * 2 ^ 32 + low }
