@@ -45,7 +45,7 @@ pub(crate) fn fresh<const BYTES: usize>(lines: &mut [u8], tags: &mut [u32]) -> R
 }
 
 // Puts a line that was read from memory into its place.
-#[tactic(auto, unfolding(crate::specs::Both::both_told, crate::specs::Both::install_bytes, crate::specs::Both::install_tags))]
+#[tactic(auto, using(crate::proofs::PartLaws::all_there, crate::proofs::PartLaws::line_inside), unfolding(crate::specs::Both::both_told, crate::specs::Both::install_bytes, crate::specs::Both::install_tags, lines::specs::Bytes::copied))]
 pub(crate) fn install<const SIZE: u32, const BYTES: usize>(
     lines: &mut [u8],
     tags: &mut [u32],
@@ -108,6 +108,7 @@ pub(crate) fn resident_addr<const SIZE: u32>(tags: &[u32], index: usize) -> Resu
 }
 
 // The line that starts there, if it goes to memory.
+#[tactic(auto, unfolding(lines::specs::Bytes::line_if))]
 pub(crate) fn writeback<const N: usize>(
     lines: &[u8],
     word: u32,

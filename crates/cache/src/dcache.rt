@@ -64,7 +64,7 @@ pub fn install(lines: &mut [u8], tags: &mut [u32], addr: u32, line: [u8; 16]) ->
 }
 
 // `len` bytes at an address, the highest first. The caller has made the line resident: no hit is tested.
-#[tactic(auto, unfolding(crate::specs::Data::read_told))]
+#[tactic(auto, unfolding(crate::specs::Data::read_told, lines::specs::Bytes::number_at, lines::specs::Access::access_refusal))]
 pub fn read(lines: &[u8], addr: u32, len: usize) -> Result<u64, Refusal>
     ensures { told_value result ≡ read_told lines.now addr len }
 {
@@ -114,7 +114,7 @@ pub fn store_tag(tags: &mut [u32], addr: u32, tag_lo: u32) -> Result<(), Refusal
 
 // Takes the line for write-back, if it is valid and dirty. `clean` clears the dirty flag and leaves the line resident;
 // `invalidate` clears both flags.
-#[tactic(auto, unfolding(crate::specs::Data::flush_told, crate::specs::Data::flush_bytes, crate::specs::Data::flush_tags))]
+#[tactic(auto, using(crate::proofs::PartLaws::all_there), unfolding(crate::specs::Data::flush_told, crate::specs::Data::flush_bytes, crate::specs::Data::flush_tags))]
 pub fn flush_index(
     lines: &[u8],
     tags: &mut [u32],
@@ -137,7 +137,7 @@ pub fn flush_index(
 
 // `Create_Dirty_Exclusive`: claims the line without filling it, for a caller that is about to write all of it. The bytes that
 // it had stay; what it displaces is told.
-#[tactic(auto, unfolding(crate::specs::Data::create_told, crate::specs::Data::create_bytes, crate::specs::Data::create_tags))]
+#[tactic(auto, using(crate::proofs::PartLaws::all_there), unfolding(crate::specs::Data::create_told, crate::specs::Data::create_bytes, crate::specs::Data::create_tags))]
 pub fn create_dirty_exclusive(lines: &[u8], tags: &mut [u32], addr: u32) -> Writeback<16>
     ensures { (told_writeback result.answer ≡ create_told lines.now tags.old addr)
         × (result.«data» ≡ create_bytes lines.now tags.old addr)

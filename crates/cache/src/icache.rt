@@ -33,7 +33,7 @@ pub fn hits(tags: &[u32], addr: u32) -> Result<bool, Refusal>
 }
 
 // The instruction at an address, the highest byte first. The caller has made the line resident: no hit is tested.
-#[tactic(auto, unfolding(crate::specs::Instruction::word_told))]
+#[tactic(auto, unfolding(crate::specs::Instruction::word_told, lines::specs::Bytes::number_at))]
 pub fn read_word(lines: &[u8], addr: u32) -> Result<u64, Refusal>
     ensures { told_value result ≡ word_told lines.now addr }
 {
@@ -95,7 +95,7 @@ pub fn hit_invalidate(tags: &mut [u32], addr: u32) -> Result<(), Refusal>
 }
 
 // `Hit_Write_Back`: a line that holds the address goes to memory, which may have changed under it.
-#[tactic(auto, unfolding(crate::specs::Instruction::flush_told, crate::specs::Instruction::flush_bytes))]
+#[tactic(auto, using(crate::proofs::PartLaws::all_there), unfolding(crate::specs::Instruction::flush_told, crate::specs::Instruction::flush_bytes))]
 pub fn flush_hit(lines: &[u8], tags: &[u32], addr: u32) -> Writeback<32>
     ensures { (told_writeback result.answer ≡ flush_told lines.now tags.now addr)
         × (result.«data» ≡ flush_bytes lines.now tags.now addr) }

@@ -1,33 +1,16 @@
 -- The lengths of an access.
 use mathlib.Core.Path.{◌≡◌, refl}
 use mathlib.Core.Bool.{Bool, true, false, ◌&&◌, cond}
-use Prim.Native.Nat.{ℕ, ◌+◌, ◌%◌, ◌<◌, ◌≤◌}
+use Prim.Native.Nat.{ℕ, ◌+◌, ◌%◌, ◌≤◌}
 use native.Mathlib.Omega.{arith}
 use lib.Dec.{leb}
-use borrow.Author.Tests.{leb-true, le-leb, lt-leb}
+use borrow.Author.Tests.{leb-true}
 use Rattle.std.proofs.Common.{Result, Ok, Err}
 use Rattle.lines.specs.Access.{access_refusal, check_number}
 use Rattle.lines.specs.declared.access.Refusal.{Refusal}
 use Rattle.lines.specs.declared.access.Refusal.TheVariants.{Length, Crossing}
 
--- the tests of an access, in their order
 module _ (a len : ℕ) where
-  pub too_short : len < 1 → access_refusal a len ≡ 2
-  unfolding access_refusal
-  too_short h = rw (lt-leb 1 len h)
-
-  pub too_long : 1 ≤ len → 8 < len → access_refusal a len ≡ 2
-  unfolding access_refusal
-  too_long h k = rw (le-leb 1 len h, lt-leb len 8 k)
-
-  pub past_the_line : 1 ≤ len → len ≤ 8 → 16 < a % 16 + len → access_refusal a len ≡ 3
-  unfolding access_refusal
-  past_the_line h k l = rw (le-leb 1 len h, le-leb len 8 k, lt-leb (a % 16 + len) 16 l)
-
-  pub not_refused : 1 ≤ len → len ≤ 8 → a % 16 + len ≤ 16 → access_refusal a len ≡ 0
-  unfolding access_refusal
-  not_refused h k l = rw (le-leb 1 len h, le-leb len 8 k, le-leb (a % 16 + len) 16 l)
-
   -- an access that is not refused has at most eight bytes, within its line
   pub allowed : access_refusal a len ≡ 0 → (len ≤ 8) × (a % 16 + len ≤ 16)
   unfolding access_refusal

@@ -8,6 +8,7 @@ use borrow.Fn.World as World
 use Rattle.std.proofs.Common.{Result, Fits, w64}
 use Rattle.bits.proofs.Same.{same}
 use Rattle.lines.specs.declared.access.Refusal.{Refusal}
+use Rattle.lines.specs.Access.{check_number}
 use Rattle.lines.proofs.AccessLaws.{check_one}
 use Rattle.lines.specs.contracts.access.check as check
 use Rattle.lines.proofs.access.check.Reads as check_reads
@@ -25,6 +26,10 @@ use Rattle.lines.proofs.bytes.put_big_endian.Reads as put_big_endian_reads
 pub check_unique : (κs : Lifetimes.Lfts 0) (a : World.ArgsD check.signature κs) (r r' : Result (Unit {0}) Refusal) (s s' : _)
     → check_reads.Post κs a r s → check_reads.Post κs a r' s' → r ≡ r'
 check_unique κs a r r' s s' p q = check_one r r' (same p q)
+
+pub refusal_unique : (κs : Lifetimes.Lfts 0) (a : World.ArgsD check.signature κs) (r r' : Result (Unit {0}) Refusal) (s s' : _)
+    → check_reads.Post κs a r s → check_reads.Post κs a r' s' → check_number r ≡ check_number r'
+refusal_unique κs a r r' s s' p q = same p q
 
 pub number_unique : (a : Refusal × Unit {0}) (r r' : ℕ) → number.Post tt a r a → number.Post tt a r' a → r ≡ r'
 number_unique a r r' = same

@@ -20,6 +20,7 @@ impl Refusal {
     }
 }
 
+#[tactic(auto, unfolding(crate::specs::Access::access_refusal))]
 pub fn check(addr: u32, len: usize) -> Result<(), Refusal>
     ensures { check_number result ≡ access_refusal addr len }
 {

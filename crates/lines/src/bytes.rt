@@ -9,6 +9,7 @@ pub fn clear(lines: &mut [u8])
 }
 
 // Copies `bytes` to a place; all else stays as it was.
+#[tactic(auto, unfolding(crate::specs::Bytes::copied))]
 pub fn copy(lines: &mut [u8], at: usize, bytes: &[u8])
     ensures { lines.new ≡ copied lines.old at bytes.now }
 {
@@ -18,6 +19,7 @@ pub fn copy(lines: &mut [u8], at: usize, bytes: &[u8])
 }
 
 // A line, if it is asked for; zeros if not.
+#[tactic(auto, unfolding(crate::specs::Bytes::line_if))]
 pub fn line<const N: usize>(lines: &[u8], at: usize, asked: bool) -> [u8; N]
     ensures { result ≡ line_if N asked lines.now at }
 {
@@ -32,6 +34,7 @@ pub fn line<const N: usize>(lines: &[u8], at: usize, asked: bool) -> [u8; N]
 }
 
 // The number that `len` bytes at a place are, up to eight of them.
+#[tactic(auto, unfolding(crate::specs::Bytes::number_at))]
 pub fn big_endian(lines: &[u8], at: usize, len: usize) -> u64
     ensures { result ≡ number_at lines.now at len }
 {
@@ -45,6 +48,7 @@ pub fn big_endian(lines: &[u8], at: usize, len: usize) -> u64
 }
 
 // The low `len` bytes of a value go to a place, up to eight of them.
+#[tactic(auto, unfolding(crate::specs::Bytes::number_put))]
 pub fn put_big_endian(lines: &mut [u8], at: usize, len: usize, value: u64)
     ensures { lines.new ≡ number_put lines.old at len value }
 {
@@ -81,14 +85,15 @@ fn joined(bytes: &[u8]) -> u64
     joined_each(bytes)
 }
 
+#[tactic(auto, unfolding(crate::specs::Bytes::joined))]
 fn four(a: u8, b: u8, c: u8, d: u8) -> u64
     ensures value { result ≡ big_endian (a ∷ b ∷ c ∷ d ∷ []) }
     ensures upper_bound { result < 2 ^ 32 }
 {
-    ((a as u64 * 256 + b as u64) * 256 + c as u64) * 256 + d as u64
+    u32::from_be_bytes([a, b, c, d]) as u64
 }
 
-// Two halves of a word.
+// Two halves of a word: `u64::from_be_bytes` would want all eight bytes written out again.
 fn both(high: u64, low: u64) -> u64
     requires { (high < 2 ^ 32) × (low < 2 ^ 32) }
     ensures { result ≡ high * 2 ^ 32 + low }
