@@ -13,6 +13,7 @@ pub enum Refusal {
 }
 
 impl Refusal {
+    // Its number, by which other languages and traces know it.
     pub fn number(self) -> u8
         ensures { result ≡ refusal_number self }
     {

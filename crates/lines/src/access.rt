@@ -10,6 +10,7 @@ pub enum Refusal {
 }
 
 impl Refusal {
+    // Its number, by which other languages and traces know it.
     pub fn number(self) -> u8
         ensures { result ≡ refusal_number self }
     {
@@ -21,6 +22,7 @@ impl Refusal {
 }
 
 #[tactic(auto, unfolding(crate::specs::Access::access_refusal))]
+// Is the access one that a line has?
 pub fn check(addr: u32, len: usize) -> Result<(), Refusal>
     ensures { check_number result ≡ access_refusal addr len }
 {

@@ -59,7 +59,7 @@ pub fn put_big_endian(lines: &mut [u8], at: usize, len: usize, value: u64)
     copy(lines, at, &bytes[8 - len..8]);
 }
 
-// Are `n` bytes at a place within `len`?
+// Are `n` bytes at a place within `len`? By a difference, since the sum that a range for `get` is made of need not fit.
 fn within(len: usize, at: usize, n: usize) -> bool
     ensures { result ≡ leb (at + n) len }
 {
