@@ -327,8 +327,8 @@ impl Cop0 {
         self
     }
 
-    #[tactic(auto, unfolding(crate::specs::Registers::write_mask))]
     // Beside `arch_mask`, and no function of both tables: each contract names the manual's own table.
+    #[tactic(auto, unfolding(crate::specs::Registers::write_mask))]
     fn write_mask(n: u8) -> u64
         ensures { result ≡ write_mask (n % 32) }
     {

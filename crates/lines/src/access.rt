@@ -21,8 +21,8 @@ impl Refusal {
     }
 }
 
-#[tactic(auto, unfolding(crate::specs::Access::access_refusal))]
 // Is the access one that a line has?
+#[tactic(auto, unfolding(crate::specs::Access::access_refusal))]
 pub fn check(addr: u32, len: usize) -> Result<(), Refusal>
     ensures { check_number result ≡ access_refusal addr len }
 {
