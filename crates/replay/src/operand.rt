@@ -1,54 +1,46 @@
 // The operands of a line.
-ghost use Rattle.std.specs.Prelude.{◌≤◌, length};
-
-use crate::line;
-use crate::line::Stop;
+use crate::words::Words;
 use digits::Number;
 
 // The most operands that an operation takes.
 pub const MOST: usize = 6;
 
-// How many operands there are, where `MOST + 1` is any number of too many; whether all are numbers; and those numbers.
+// How many operands there are, and their numbers, if all are numbers. One past the most has no place, and 0 stands where none is.
 #[derive(Clone, Copy)]
 pub(crate) struct Operands {
     pub count: usize,
-    pub good: bool,
-    pub values: [u64; MOST],
+    pub values: Option<[u64; MOST]>,
 }
 
 impl Operands {
-    // The words of a line from `at` on.
-    pub(crate) fn of(line: &[u8], at: usize) -> Operands
-        requires { at ≤ length line.now }
-    {
-        let mut all = Operands {
-            count: 0,
-            good: true,
-            values: [0; MOST],
-        };
-        let mut from = line::find(line, at, Stop::Word);
-        while from < line.len() {
-            let to = line::find(line, from + 1, Stop::Blank);
-            all = all.with(digits::parse(&line[from..to]));
-            from = line::find(line, to, Stop::Word);
+    pub(crate) fn of(words: Words) -> Operands {
+        Operands {
+            count: words.count(),
+            values: numbers(words),
         }
-        all
     }
 
-    fn with(mut self, next: Number) -> Operands {
-        let at = self.count;
-        if MOST < at {
-            return self;
+    // The first number, or 0.
+    pub(crate) fn first(self) -> u64 {
+        match self.values {
+            Some(values) => values[0],
+            None => 0,
         }
-        self.count = at + 1;
-        let Number::Value(value) = next else {
-            self.good = false;
-            return self;
-        };
-        if at < MOST {
-            self.values[at] = value;
-        }
-        self
+    }
+}
+
+fn numbers(words: Words) -> Option<[u64; MOST]> {
+    let mut values = [0; MOST];
+    for (value, word) in values.iter_mut().zip(words) {
+        *value = number(word)?;
+    }
+    Some(values)
+}
+
+fn number(word: &[u8]) -> Option<u64> {
+    match digits::parse(word) {
+        Number::Value(value) => Some(value),
+        Number::Bad => None,
     }
 }
 

@@ -1,75 +1,89 @@
 // A row of the operations' table: two letters for who plays it, a name, and then a letter for each operand.
-use crate::line::{Stop, find};
 use crate::operand::MOST;
+use crate::words::Words;
+
+// The parts of the program that play operations.
+#[derive(Clone, Copy)]
+pub enum Part {
+    // a session's own operations
+    Session,
+    // a fresh start
+    New,
+    // the session told whole
+    State,
+    // what writes a session's registers
+    Written,
+    // what asks them
+    Asked,
+    // what asks nothing but the numbers of a line
+    Computed,
+    // of each cache what needs its tag words alone, and what needs its lines too
+    DataTags,
+    DataLines,
+    InstructionTags,
+    InstructionLines,
+}
+
+impl Part {
+    // The part of a letter of the table.
+    fn from_letter(letter: u8) -> Option<Part> {
+        match letter {
+            b's' => Some(Part::Session),
+            b'n' => Some(Part::New),
+            b't' => Some(Part::State),
+            b'w' => Some(Part::Written),
+            b'a' => Some(Part::Asked),
+            b'c' => Some(Part::Computed),
+            b'd' => Some(Part::DataTags),
+            b'D' => Some(Part::DataLines),
+            b'i' => Some(Part::InstructionTags),
+            b'I' => Some(Part::InstructionLines),
+            _ => None,
+        }
+    }
+}
 
 // Who plays a row's operation, and how many operands it has, with the greatest number that each may be.
 #[derive(Clone, Copy)]
 pub(crate) struct Row {
-    pub known: bool,
-    pub part: u8,
+    pub part: Part,
     pub arm: u8,
     pub count: usize,
     pub limits: [u64; MOST],
 }
 
-// Where a row's name starts.
-const NAME: usize = 3;
-
 impl Row {
-    // The row of a name, on a line whose first operand is `exc`.
-    pub(crate) fn of(table: &[u8], name: &[u8], exc: u64) -> Row {
-        let mut at = 0;
-        while at < table.len() {
-            let from = at;
-            let end = find(table, from, Stop::LineEnd);
-            if is_named(&table[from..end], name) {
-                return read(&table[from..end], exc);
-            }
-            at = end + 1;
-        }
-        Row::new(false, 0, 0)
+    // The row of a name, if the table has one, on a line whose first operand is `exc`.
+    pub(crate) fn of(table: &[u8], name: &[u8], exc: u64) -> Option<Row> {
+        table
+            .split(|b| *b == b'\n')
+            .find_map(|line| Row::named(line, name, exc))
     }
 
-    fn new(known: bool, part: u8, arm: u8) -> Row {
-        Row {
-            known,
-            part,
-            arm,
-            count: 0,
-            limits: [0; MOST],
+    // The row on a line of the table, if it is the name's.
+    fn named(line: &[u8], name: &[u8], exc: u64) -> Option<Row> {
+        let mut words = Words(line);
+        let [part, arm] = words.next()? else {
+            return None;
+        };
+        if words.next()? != name {
+            return None;
         }
-    }
-
-    fn with(mut self, limit: u64) -> Row {
-        let at = self.count;
-        if at < MOST {
-            self.limits[at] = limit;
-            self.count = at + 1;
-        }
-        self
+        let letters = words.next().unwrap_or(b"");
+        Some(Row {
+            part: Part::from_letter(*part)?,
+            arm: *arm,
+            count: letters.len(),
+            limits: limits(letters, exc),
+        })
     }
 }
 
-fn is_named(row: &[u8], name: &[u8]) -> bool {
-    if row.len() < NAME {
-        return false;
-    }
-    let end = find(row, NAME, Stop::Blank);
-    &row[NAME..end] == name
-}
-
-// A row's two letters, and those of its operands.
-fn read(row: &[u8], exc: u64) -> Row {
-    if row.len() < NAME {
-        return Row::new(false, 0, 0);
-    }
-    let mut all = Row::new(true, row[0], row[1]);
-    let mut i = find(row, NAME, Stop::Blank);
-    while i < row.len() {
-        if row[i] != b' ' {
-            all = all.with(greatest(row[i], exc));
-        }
-        i += 1;
+// The greatest number that each operand may be, and 0 where there is none.
+fn limits(letters: &[u8], exc: u64) -> [u64; MOST] {
+    let mut all = [0; MOST];
+    for (limit, letter) in all.iter_mut().zip(letters) {
+        *limit = greatest(*letter, exc);
     }
     all
 }
