@@ -1,10 +1,15 @@
--- A number is over its limit where a pair of the two is.
-use Rattle.std.proofs.Common.{◌≡◌, ℕ, List, [], ◌∷◌, ltb, ◌||◌, ap, refl}
+-- A number is over its limit where a pair of its letter and the number says so.
+use Rattle.std.proofs.Common.{◌≡◌, ℕ, Bool, List, [], ◌∷◌, map, ltb, ◌||◌, ap, refl}
 use Rattle.std.specs.List.{list_any, zip}
-use Rattle.replay.specs.Request.{over}
+use Rattle.replay.specs.Request.{greatest_of, over}
 
-pub over_pairs : (limits values : List ℕ) → list_any (λ (p : ℕ × ℕ). ltb p.0 p.1) (zip limits values) ≡ over limits values
-unfolding over
-over_pairs [] values = refl
-over_pairs (l ∷ limits) [] = refl
-over_pairs (l ∷ limits) (v ∷ values) = ap (λ b. ltb l v || b) (over_pairs limits values)
+module _ (exc : ℕ) where
+  -- whether a number is over the limit of its letter
+  abbrev pub is_over : ℕ × ℕ → Bool
+  is_over p = ltb (greatest_of exc p.0) p.1
+
+  pub over_pairs : (letters values : List ℕ) → list_any is_over (zip letters values) ≡ over (map (greatest_of exc) letters) values
+  unfolding over
+  over_pairs [] values = refl
+  over_pairs (l ∷ letters) [] = refl
+  over_pairs (l ∷ letters) (v ∷ values) = ap (λ b. is_over (l, v) || b) (over_pairs letters values)

@@ -19,14 +19,6 @@ impl Operands {
             values: numbers(words),
         }
     }
-
-    // The first number, or 0.
-    pub(crate) fn first(self) -> u64 {
-        match self.values {
-            Some(values) => values[0],
-            None => 0,
-        }
-    }
 }
 
 fn numbers(words: Words) -> Option<[u64; MOST]> {

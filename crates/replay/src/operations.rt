@@ -5,7 +5,7 @@ use crate::row::Row;
 // come its name, and a letter for each operand, which says what that may be: `f` a flag, `m` a mode, `v` a vector's kind, `e` an
 // exception, `A` and `B` what that comes with, `b` 8 bits, `w` 32 bits and `l` 64 bits. A row without an arm answers `unplayed`,
 // which no trace may.
-pub(crate) fn row_of(name: &[u8], exc: u64) -> Option<Row> {
+pub(crate) fn row_of(name: &[u8]) -> Option<Row<'static>> {
     Row::of(
         b"sa mfc0 b
 sb dmfc0 b
@@ -69,6 +69,5 @@ Ic i_flush_hit w
 Id i_line l
 ",
         name,
-        exc,
     )
 }

@@ -1,10 +1,10 @@
 // What a line asks: an operation, nothing, or something that is wrong.
-ghost use Rattle.std.specs.Prelude.{◌≡◌};
-ghost use Rattle.replay.specs.Request.{over, checked_of};
+ghost use Rattle.std.specs.Prelude.{◌≡◌, map};
+ghost use Rattle.replay.specs.Request.{greatest_of, over, checked_of};
 
 use crate::operand::{MOST, Operands};
 use crate::operations::row_of;
-use crate::row::{Part, Row};
+use crate::row::{Part, Row, greatest};
 use crate::words::Words;
 
 // What is wrong with a line, in the order in which it is checked.
@@ -34,27 +34,25 @@ pub fn read(line: &[u8]) -> Result<Option<Call>, Fault> {
     if name.starts_with(b"#") {
         return Ok(None);
     }
-    let args = Operands::of(words);
-    let call = checked(row_of(name, args.first()), args)?;
+    let call = checked(row_of(name), Operands::of(words))?;
     Ok(Some(call))
 }
 
 // The operation, if there is such a one, with an operand for each of its letters, all numbers and none over its limit. Each check
 // goes over the whole line before the next one starts. A number that is not there is 0, and over no limit.
 fn checked(row: Option<Row>, args: Operands) -> Result<Call, Fault>
-    ensures { result ≡ checked_of row args }
+    ensures { result ≡ checked_of row.entry args }
 {
     let Some(row) = row else {
         return Err(Fault::UnknownOperation);
     };
-    if args.count != row.count {
+    if args.count != row.letters.len() {
         return Err(Fault::OperandCount);
     }
     let Some(values) = args.values else {
         return Err(Fault::BadNumber);
     };
-    let limits = row.limits;
-    if is_over(&limits, &values) {
+    if is_over(row.letters, &values, values[0]) {
         return Err(Fault::OutOfRange);
     }
     Ok(Call {
@@ -64,11 +62,12 @@ fn checked(row: Option<Row>, args: Operands) -> Result<Call, Fault>
     })
 }
 
-fn is_over(limits: &[u64], values: &[u64]) -> bool
-    ensures { result ≡ over limits.now values.now }
+// Whether a number is over the limit of its letter, on a line whose first operand is `exc`.
+fn is_over(letters: &[u8], values: &[u64], exc: u64) -> bool
+    ensures { result ≡ over (map (greatest_of exc) letters.now) values.now }
 {
-    limits
+    letters
         .iter()
         .zip(values)
-        .any(|(limit, value)| *limit < *value)
+        .any(|(letter, value)| greatest(*letter, exc) < *value)
 }

@@ -1,5 +1,7 @@
 // A row of the operations' table: two letters for who plays it, a name, and then a letter for each operand.
-use crate::operand::MOST;
+ghost use Rattle.std.specs.Prelude.{◌≡◌};
+ghost use Rattle.replay.specs.Request.{greatest_of, greatest_a_of, greatest_b_of};
+
 use crate::words::Words;
 
 // The parts of the program that play operations.
@@ -43,25 +45,24 @@ impl Part {
     }
 }
 
-// Who plays a row's operation, and how many operands it has, with the greatest number that each may be.
+// Who plays a row's operation, and a letter for each of its operands.
 #[derive(Clone, Copy)]
-pub(crate) struct Row {
+pub(crate) struct Row<'t> {
     pub part: Part,
     pub arm: u8,
-    pub count: usize,
-    pub limits: [u64; MOST],
+    pub letters: &'t [u8],
 }
 
-impl Row {
-    // The row of a name, if the table has one, on a line whose first operand is `exc`.
-    pub(crate) fn of(table: &[u8], name: &[u8], exc: u64) -> Option<Row> {
+impl<'t> Row<'t> {
+    // The row of a name, if the table has one.
+    pub(crate) fn of(table: &'t [u8], name: &[u8]) -> Option<Row<'t>> {
         table
             .split(|b| *b == b'\n')
-            .find_map(|line| Row::named(line, name, exc))
+            .find_map(|line| Row::named(line, name))
     }
 
     // The row on a line of the table, if it is the name's.
-    fn named(line: &[u8], name: &[u8], exc: u64) -> Option<Row> {
+    fn named(line: &'t [u8], name: &[u8]) -> Option<Row<'t>> {
         let mut words = Words(line);
         let [part, arm] = words.next()? else {
             return None;
@@ -69,27 +70,18 @@ impl Row {
         if words.next()? != name {
             return None;
         }
-        let letters = words.next().unwrap_or(b"");
         Some(Row {
             part: Part::from_letter(*part)?,
             arm: *arm,
-            count: letters.len(),
-            limits: limits(letters, exc),
+            letters: words.next().unwrap_or(b""),
         })
     }
 }
 
-// The greatest number that each operand may be, and 0 where there is none.
-fn limits(letters: &[u8], exc: u64) -> [u64; MOST] {
-    let mut all = [0; MOST];
-    for (limit, letter) in all.iter_mut().zip(letters) {
-        *limit = greatest(*letter, exc);
-    }
-    all
-}
-
-// The greatest number that an operand of a letter may be.
-fn greatest(letter: u8, exc: u64) -> u64 {
+// The greatest number that an operand of a letter may be, on a line whose first operand is `exc`.
+pub(crate) fn greatest(letter: u8, exc: u64) -> u64
+    ensures { result ≡ greatest_of exc letter }
+{
     match letter {
         b'f' => 1,
         b'm' => 2,
@@ -104,7 +96,9 @@ fn greatest(letter: u8, exc: u64) -> u64 {
 }
 
 // An exception's operand A: whether it is a store, a coprocessor's unit, or nothing.
-fn greatest_a(exc: u64) -> u64 {
+fn greatest_a(exc: u64) -> u64
+    ensures { result ≡ greatest_a_of exc }
+{
     match exc {
         1 | 10 | 11 => 1,
         7 | 8 => 0xff,
@@ -113,7 +107,9 @@ fn greatest_a(exc: u64) -> u64 {
 }
 
 // An exception's operand B: whether a refill is wide, or nothing.
-fn greatest_b(exc: u64) -> u64 {
+fn greatest_b(exc: u64) -> u64
+    ensures { result ≡ greatest_b_of exc }
+{
     match exc {
         10 => 1,
         _ => 0,
