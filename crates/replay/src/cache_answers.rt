@@ -24,20 +24,23 @@ pub(crate) fn of_value(told: Value) -> Told {
 }
 
 // A plan, with the bytes of the line that may have to leave.
-pub(crate) fn of_plan(told: PlanAnswer, line: Line) -> Told {
+pub(crate) fn of_plan(told: PlanAnswer, line: [u8; 16]) -> Told {
     match told {
         PlanAnswer::Hit => Told::Hit,
         PlanAnswer::Fill => Told::Fill,
-        PlanAnswer::Evict(addr) => Told::Evict(addr, line),
+        PlanAnswer::Evict(addr) => Told::Evict(addr, Line::from(line)),
         PlanAnswer::Refused(k) => Told::Refused(k),
     }
 }
 
 // A write-back, with the bytes of the line that may leave.
-pub(crate) fn of_writeback(told: WritebackAnswer, line: Line) -> Told {
+pub(crate) fn of_writeback<const N: usize>(told: WritebackAnswer, line: [u8; N]) -> Told
+where
+    Line: From<[u8; N]>,
+{
     match told {
         WritebackAnswer::None => Told::Stays,
-        WritebackAnswer::Evict(addr) => Told::Evict(addr, line),
+        WritebackAnswer::Evict(addr) => Told::Evict(addr, Line::from(line)),
         WritebackAnswer::Refused(k) => Told::Refused(k),
     }
 }

@@ -1,35 +1,24 @@
-// The memory of both caches.
+// The memory of the caches, and what is read from it and put into it as it stands.
 ghost use Rattle.std.specs.Prelude.{◌+◌, ◌≤◌, length};
 
-use crate::cache_answers::of_done;
-use crate::told::Told;
-use cache::{Done, dcache, icache};
-
-// The bytes and the tag words of each.
+// The bytes of a cache's lines, and their tag words.
 #[derive(Drop)]
-pub struct Caches {
-    pub data: [u8; 8192],
-    pub data_tags: [u32; 512],
-    pub instructions: [u8; 16384],
-    pub instruction_tags: [u32; 512],
+pub struct Memory<const BYTES: usize> {
+    pub lines: [u8; BYTES],
+    pub tags: [u32; 512],
 }
 
-impl Caches {
-    // All zero, as fresh caches are.
-    pub fn new() -> Caches {
-        Caches {
-            data: [0; 8192],
-            data_tags: [0; 512],
-            instructions: [0; 16384],
-            instruction_tags: [0; 512],
-        }
-    }
+pub type DataCache = Memory<8192>;
 
-    pub fn renew(&mut self) -> Told {
-        if let Done::Refused(k) = dcache::new(&mut self.data, &mut self.data_tags) {
-            return Told::Refused(k);
+pub type InstructionCache = Memory<16384>;
+
+impl<const BYTES: usize> Memory<BYTES> {
+    // All zero, as a fresh cache is.
+    pub fn new() -> Memory<BYTES> {
+        Memory {
+            lines: [0; BYTES],
+            tags: [0; 512],
         }
-        of_done(icache::new(&mut self.instructions, &mut self.instruction_tags))
     }
 }
 

@@ -1,16 +1,16 @@
 // One operation of the instruction cache, played on its memory.
 use crate::cache_answers::{of_asked, of_done, of_value, of_writeback};
-use crate::caches::{Caches, line_at, line_of};
+use crate::caches::{InstructionCache, line_at, line_of};
 use crate::operand::word;
 use crate::request::Call;
 use crate::told::{Line, Told};
-use cache::{InstructionWriteback, icache};
+use cache::icache;
 
 // What needs the tag words alone.
-pub(crate) fn on_tags(call: Call, caches: &mut Caches) -> Told {
+pub(crate) fn on_tags(call: Call, cache: &mut InstructionCache) -> Told {
     let v = call.values;
     let addr = word(v[0]);
-    let tags = &mut caches.instruction_tags;
+    let tags = &mut cache.tags;
     match call.arm {
         b'a' => of_asked(icache::hits(tags, addr)),
         b'b' => of_value(icache::load_tag(tags, addr)),
@@ -22,23 +22,22 @@ pub(crate) fn on_tags(call: Call, caches: &mut Caches) -> Told {
 }
 
 // What needs the lines too.
-pub(crate) fn on_lines(call: Call, caches: &mut Caches) -> Told {
+pub(crate) fn on_lines(call: Call, cache: &mut InstructionCache) -> Told {
     let v = call.values;
     let addr = word(v[0]);
-    let lines = &mut caches.instructions;
-    let tags = &mut caches.instruction_tags;
+    let lines = &mut cache.lines;
+    let tags = &mut cache.tags;
     match call.arm {
         b'a' => of_done(icache::install(lines, tags, addr, line_of(&v[1..5]))),
         b'b' => of_value(icache::read_word(lines, addr)),
-        b'c' => written_back(icache::flush_hit(lines, tags, addr)),
+        b'c' => {
+            let made = icache::flush_hit(lines, tags, addr);
+            of_writeback(made.answer, made.data)
+        }
         b'd' => {
             let i = (v[0] % 512) as usize;
             Told::Line(tags[i], Line::Instructions(line_at(lines, i * 32)))
         }
         _ => Told::Unplayed,
     }
-}
-
-fn written_back(made: InstructionWriteback) -> Told {
-    of_writeback(made.answer, Line::from(made.data))
 }

@@ -1,10 +1,12 @@
 // A whole trace, from a fresh start to its end or its first fault.
-use crate::caches::Caches;
+use crate::cache_answers::of_done;
+use crate::caches::{DataCache, InstructionCache};
 use crate::output::Output;
 use crate::request::{Call, read};
 use crate::row::Part;
 use crate::told::Told;
 use crate::{answer, dcache_step, icache_step, input, register_step, session_step, state};
+use cache::{Done, dcache, icache};
 use session::Session;
 use std::io;
 use std::io::Write;
@@ -38,14 +40,16 @@ fn without_end(line: &[u8]) -> &[u8] {
 #[derive(Drop)]
 struct Player {
     session: Session,
-    caches: Caches,
+    data: DataCache,
+    instructions: InstructionCache,
 }
 
 impl Player {
     fn new() -> Player {
         Player {
             session: Session::new(),
-            caches: Caches::new(),
+            data: DataCache::new(),
+            instructions: InstructionCache::new(),
         }
     }
 
@@ -58,10 +62,10 @@ impl Player {
             Part::Written => register_step::written(call, &mut self.session.cop0),
             Part::Asked => register_step::asked(call, self.session.cop0),
             Part::Computed => register_step::computed(call),
-            Part::DataTags => dcache_step::on_tags(call, &mut self.caches),
-            Part::DataLines => dcache_step::on_lines(call, &mut self.caches),
-            Part::InstructionTags => icache_step::on_tags(call, &mut self.caches),
-            Part::InstructionLines => icache_step::on_lines(call, &mut self.caches),
+            Part::DataTags => dcache_step::on_tags(call, &mut self.data),
+            Part::DataLines => dcache_step::on_lines(call, &mut self.data),
+            Part::InstructionTags => icache_step::on_tags(call, &mut self.instructions),
+            Part::InstructionLines => icache_step::on_lines(call, &mut self.instructions),
         };
         answer::write(out, told)
     }
@@ -69,6 +73,11 @@ impl Player {
     // A fresh session and fresh caches.
     fn renew(&mut self) -> Told {
         self.session = Session::new();
-        self.caches.renew()
+        let data = &mut self.data;
+        if let Done::Refused(k) = dcache::new(&mut data.lines, &mut data.tags) {
+            return Told::Refused(k);
+        }
+        let instructions = &mut self.instructions;
+        of_done(icache::new(&mut instructions.lines, &mut instructions.tags))
     }
 }

@@ -10,7 +10,7 @@ returns c =
     let letters = c.args.letters.now in
     let values = c.args.values.now in
     any_from_yields_List
-        {s = c.zip.result} (is_over c.args.exc) c.any.new.self _ c.any.result c.any.ensures.ran
-        (YieldsList-from_zip {s = c.zip.result} (YieldsList-from_slice letters cc) (YieldsList-from_slice values cc))
-        (λ x b q k. search (rules, tests))
+    {s = c.zip.result} (is_over c.args.exc) c.any.new.self _ c.any.result c.any.ensures.ran
+    (YieldsList-from_zip {s = c.zip.result} (YieldsList-from_slice letters cc) (YieldsList-from_slice values cc))
+    (λ x b q k. search (rules, tests))
     ∙ over_pairs c.args.exc letters values
