@@ -11,7 +11,7 @@ use tlb::Entry;
 
 // A value as it is written: a number of 16 digits, a flag, a decimal number, or the bytes of a line.
 #[derive(Clone, Copy)]
-pub enum Value {
+pub(crate) enum Value {
     Number(u64),
     Flag(bool),
     Decimal(u64),
@@ -70,7 +70,7 @@ pub fn write_fault(out: &mut Output, number: u64, fault: Fault) -> io::Result<()
 }
 
 // An entry, with its number before it.
-pub fn write_entry(out: &mut Output, i: u64, entry: Entry) -> io::Result<()> {
+pub(crate) fn write_entry(out: &mut Output, i: u64, entry: Entry) -> io::Result<()> {
     let even = entry.lo0;
     let odd = entry.lo1;
     line(
@@ -117,7 +117,7 @@ fn write_line(out: &mut Output, tag_word: u32, bytes: Line) -> io::Result<()> {
 }
 
 // A line of text: a word and values.
-pub fn line(out: &mut Output, word: &[u8], values: &[Value]) -> io::Result<()> {
+pub(crate) fn line(out: &mut Output, word: &[u8], values: &[Value]) -> io::Result<()> {
     out.write_all(word)?;
     for value in values {
         out.write_all(b" ")?;

@@ -14,7 +14,7 @@ pub type InstructionCache = Memory<16384>;
 
 impl<const BYTES: usize> Memory<BYTES> {
     // All zero, as a fresh cache is.
-    pub fn new() -> Memory<BYTES> {
+    pub(crate) fn new() -> Memory<BYTES> {
         Memory {
             lines: [0; BYTES],
             tags: [0; 512],

@@ -17,7 +17,7 @@ pub struct Output<'a> {
 }
 
 impl<'a> Output<'a> {
-    pub fn new(rt: &'a HostRuntime) -> Output<'a> {
+    pub(crate) fn new(rt: &'a HostRuntime) -> Output<'a> {
         Output {
             rt,
             text: [0; SIZE],

@@ -8,7 +8,7 @@ use addr::{Access, AccessAnswer, Segment};
 use cop0::{Cop0, Cop0Op, FromRs};
 
 // What may write the registers.
-pub fn written(call: Call, c: &mut Cop0) -> Told {
+pub(crate) fn written(call: Call, c: &mut Cop0) -> Told {
     let v = call.values;
     match call.arm {
         b'a' => *c = c.write(byte(v[0]), v[1]),
@@ -37,7 +37,7 @@ fn taken(pc: u64, c: &mut Cop0) -> Told {
 }
 
 // What the registers say.
-pub fn asked(call: Call, c: Cop0) -> Told {
+pub(crate) fn asked(call: Call, c: Cop0) -> Told {
     let v = call.values;
     match call.arm {
         b'a' => Told::Number(c.read(byte(v[0]))),
@@ -59,7 +59,7 @@ fn access(status: u64) -> Told {
 }
 
 // What needs no register.
-pub fn computed(call: Call) -> Told {
+pub(crate) fn computed(call: Call) -> Told {
     let v = call.values;
     match call.arm {
         b'a' => form(byte(v[0])),

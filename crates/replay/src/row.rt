@@ -7,19 +7,19 @@ use crate::words::Words;
 // The parts of the program that play operations.
 #[derive(Clone, Copy)]
 pub enum Part {
-    // a session's own operations
+    // A session's own operations.
     Session,
-    // a fresh start
+    // A fresh start.
     New,
-    // the session told whole
+    // The session told whole.
     State,
-    // what writes a session's registers
+    // What writes a session's registers.
     Written,
-    // what asks them
+    // What asks them.
     Asked,
-    // what asks nothing but the numbers of a line
+    // What asks nothing but the numbers of a line.
     Computed,
-    // of each cache what needs its tag words alone, and what needs its lines too
+    // Of each cache what needs its tag words alone, and what needs its lines too.
     DataTags,
     DataLines,
     InstructionTags,

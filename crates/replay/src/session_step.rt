@@ -21,8 +21,7 @@ pub fn play(call: Call, s: &mut Session) -> Told {
 // The operation of an arm, if there is such an arm.
 fn op_of(call: Call) -> Option<Op> {
     let v = call.values;
-    let arm = call.arm;
-    let op = match arm {
+    Some(match call.arm {
         b'a' => Op::Mfc0(byte(v[0])),
         b'b' => Op::Dmfc0(byte(v[0])),
         b'c' => Op::Mtc0(byte(v[0]), v[1]),
@@ -44,11 +43,8 @@ fn op_of(call: Call) -> Option<Op> {
         b's' => Op::TranslateVia(v[0], byte(v[1]), flag(v[2]), access_of(v[3], v[4], v[5])),
         b't' => Op::Dispatch(exception_of(v[0], v[1], v[2]), v[3], flag(v[4]), v[5]),
         b'u' => Op::Eret,
-        _ => {
-            return None;
-        }
-    };
-    Some(op)
+        _ => return None,
+    })
 }
 
 fn told_of(answer: Answer, i: u64) -> Told {
@@ -79,7 +75,7 @@ fn of_translation(answer: TranslateAnswer) -> Told {
     }
 }
 
-pub fn is_cached(cached: Cached) -> bool {
+pub(crate) fn is_cached(cached: Cached) -> bool {
     matches!(cached, Cached::Yes)
 }
 

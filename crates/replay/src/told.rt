@@ -8,32 +8,32 @@ pub enum Told {
     Done,
     Number(u64),
     Flag(bool),
-    // whether Count came to Compare
+    // Whether Count came to Compare.
     Edge(bool),
     Refused(u8),
-    // a physical address, a flag of it, and the number of the TLB's entry
+    // A physical address, a flag of it, and the number of the TLB's entry.
     At(u32, bool, u8),
     Refill,
     Invalid,
     Modified,
     Address,
     Mapped,
-    // a physical address, and whether it is cached
+    // A physical address, and whether it is cached.
     Direct(u32, bool),
     Access(Access),
-    // an address, and the cycles that it costs
+    // An address, and the cycles that it costs.
     Vector(u64, u32),
-    // an entry and its number
+    // An entry and its number.
     Entry(u64, Entry),
     Hit,
     Fill,
-    // no line leaves
+    // No line leaves.
     Stays,
-    // the address of a line that leaves, and its bytes
+    // The address of a line that leaves, and its bytes.
     Evict(u32, Line),
-    // a line's tag word and its bytes
+    // A line's tag word and its bytes.
     Line(u32, Line),
-    // no answer: an operation that no arm plays
+    // No answer: an operation that no arm plays.
     Unplayed,
 }
 
