@@ -14,8 +14,8 @@ greatest_a_of exc = cond (eqb exc 1 || eqb exc 10 || eqb exc 11) 1 (cond (eqb ex
 abbrev pub greatest_b_of : ℕ → ℕ
 greatest_b_of exc = cond (eqb exc 10) 1 0
 
--- the greatest number that an operand of a letter may be, on a line whose first operand is exc: `f` (102), `m` (109), `v` (118), `e` (101),
--- `b` (98), `w` (119), `A` (65), `B` (66), and any other
+-- the greatest number that an operand of a letter may be, on a line whose first operand is exc: `f` (102), `m` (109), `v` (118),
+-- `e` (101), `b` (98), `w` (119), `A` (65), `B` (66), and any other
 abbrev pub greatest_of : ℕ → ℕ → ℕ
 greatest_of exc letter =
     cond (eqb letter 102) 1

@@ -1,4 +1,5 @@
-// One operation of the data cache, played on its memory.
+// One operation of the data cache, played on its memory. Three arms are those of `icache_step` over another module of `cache`: a
+// trait for both would be longer than they are.
 use crate::cache_answers::{of_asked, of_done, of_plan, of_value, of_writeback};
 use crate::caches::{DataCache, line_at, line_of};
 use crate::operand::{flag, word};

@@ -27,8 +27,8 @@ pub fn read_file<'a>(rt: &HostRuntime, n: usize, room: &'a mut [u8]) -> io::Resu
     read_all(&mut file, room)
 }
 
-// Reads until the input ends or `room` is full; `read_to_end` takes its room from the heap. A read that fails is no end: a directory can
-// be opened and not read.
+// Reads until the input ends or `room` is full; `read_to_end` takes its room from the heap. A read that fails is no end: a
+// directory can be opened and not read.
 pub fn read_all<'a>(from: &mut impl Read, room: &'a mut [u8]) -> io::Result<&'a [u8]> {
     let mut count = 0;
     while count < room.len() {

@@ -36,7 +36,8 @@ fn number(word: &[u8]) -> Option<u64> {
     }
 }
 
-// What an operand of 8 bits, of 32 bits and a flag hold. One over its limit has its line turned away.
+// What an operand of 8 bits, of 32 bits and a flag hold. One over its limit has its line turned away, so that a `try_from` would
+// have an error for nothing.
 pub fn byte(value: u64) -> u8 {
     (value % 256) as u8
 }

@@ -1,4 +1,5 @@
-// Text on its way to standard output, held until there is much to write, in fixed memory: a `BufWriter` takes its own from the heap.
+// Text on its way to standard output, held until there is much to write. The memory is fixed: a `BufWriter` takes its own from
+// the heap.
 ghost use Rattle.std.specs.Prelude.{◌≤◌};
 
 use std::io;

@@ -27,7 +27,8 @@ pub fn play(text: &[u8], out: &mut Output) -> io::Result<()> {
     Ok(())
 }
 
-// A line without its `\n` and without the one `\r` that may stand right before that. A line that the text's end cuts off has no `\n`.
+// A line without its `\n` and without the one `\r` that may stand right before that. A line that the text's end cuts off has no
+// `\n`.
 fn without_end(line: &[u8]) -> &[u8] {
     match line {
         [words @ .., b'\r', b'\n'] => words,

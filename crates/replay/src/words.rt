@@ -5,7 +5,7 @@ ghost use Rattle.replay.specs.Line.{blank_of, blanks_of, unbroken_of, from_word,
 
 // The words that are left of a line, with spaces or tabs between them.
 #[derive(Clone, Copy)]
-pub struct Words<'a>(pub &'a [u8]);
+pub(crate) struct Words<'a>(pub &'a [u8]);
 
 impl<'a> Iterator for Words<'a> {
     type Item = &'a [u8];
