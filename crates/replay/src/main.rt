@@ -8,8 +8,6 @@
 // is much to write; `state` tells the session whole.
 #![tactic(auto)]
 
-ghost use Rattle.std.specs.Prelude.{◌≤◌, length};
-
 mod answer;
 mod cache_answers;
 mod caches;
@@ -55,20 +53,18 @@ fn play_input(rt: &HostRuntime, room: &mut [u8], out: &mut Output) -> io::Result
 // Each file in turn. Only by reading a word of the command line into `room` is it known whether it is there.
 fn play_files(rt: &HostRuntime, room: &mut [u8], out: &mut Output) -> io::Result<()> {
     for i in 1..usize::MAX {
-        match rt.arg(i, room) {
-            Ok(n) => play_file(rt, n, room, out)?,
-            Err(FillError::TooLong) => play_file(rt, 0, room, out)?,
-            Err(FillError::NotPresent) => return Ok(()),
+        if let Err(FillError::NotPresent) = rt.arg(i, room) {
+            break;
         }
+        play_file(rt, i, room, out)?;
     }
     Ok(())
 }
 
-// The line `trace NAME`, and the file's answers. The name is the first `n` bytes of `room` until the file is read over it, so it is
-// written first, and its line is ended once it is known whether the file can be read.
-fn play_file(rt: &HostRuntime, n: usize, room: &mut [u8], out: &mut Output) -> io::Result<()>
-    requires { n ≤ length room.old }
-{
+// The line `trace NAME`, and the file's answers. The name stands in `room` until the file is read over it, so it is written first,
+// and its line is ended once it is known whether the file can be read.
+fn play_file(rt: &HostRuntime, i: usize, room: &mut [u8], out: &mut Output) -> io::Result<()> {
+    let n = rt.arg(i, room).unwrap_or(0);
     out.write_all(b"trace ")?;
     out.write_all(&room[..n])?;
     let Ok(text) = input::read_file(rt, n, room) else {
