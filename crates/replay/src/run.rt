@@ -1,4 +1,6 @@
 // A whole trace, from a fresh start to its end or its first fault.
+ghost use Rattle.std.specs.Prelude.{◌≤◌, length};
+
 use crate::cache_answers::of_done;
 use crate::caches::{DataCache, InstructionCache};
 use crate::output::Output;
@@ -29,7 +31,9 @@ pub fn play(text: &[u8], out: &mut Output) -> io::Result<()> {
 
 // A line without its `\n` and without the one `\r` that may stand right before that. A line that the text's end cuts off has no
 // `\n`.
-fn without_end(line: &[u8]) -> &[u8] {
+fn without_end(line: &[u8]) -> &[u8]
+    ensures { length result.now ≤ length line.now }
+{
     match line {
         [words @ .., b'\r', b'\n'] => words,
         [words @ .., b'\n'] => words,
