@@ -1,6 +1,5 @@
 // The operands of a line.
 use crate::words::Words;
-use digits::Number;
 
 // The most operands that an operation takes.
 pub const MOST: usize = 6;
@@ -24,16 +23,9 @@ impl Operands {
 fn numbers(words: Words) -> Option<[u64; MOST]> {
     let mut values = [0; MOST];
     for (value, word) in values.iter_mut().zip(words) {
-        *value = number(word)?;
+        *value = digits::parse(word)?;
     }
     Some(values)
-}
-
-fn number(word: &[u8]) -> Option<u64> {
-    match digits::parse(word) {
-        Number::Value(value) => Some(value),
-        Number::Bad => None,
-    }
 }
 
 // What an operand of 8 bits, of 32 bits and a flag hold. One over its limit has its line turned away, so that a `try_from` would

@@ -4,8 +4,8 @@ use crate::operand::byte;
 use crate::request::Call;
 use crate::session_step::is_cached;
 use crate::told::Told;
-use addr::{Access, AccessAnswer, Segment};
-use cop0::{Cop0, Cop0Op, FromRs};
+use addr::{Access, Segment};
+use cop0::{Cop0, Cop0Op};
 
 // What may write the registers.
 pub(crate) fn written(call: Call, c: &mut Cop0) -> Told {
@@ -45,16 +45,11 @@ pub(crate) fn asked(call: Call, c: Cop0) -> Told {
         b'c' => Told::Number(c.count() as u64),
         b'd' => Told::Number(c.count_now()),
         b'e' => Told::Number(c.count_ticks_until_timer_match()),
-        b'f' => access(c.regs[Cop0::STATUS as usize]),
+        b'f' => Access::from_status(c.regs[Cop0::STATUS as usize]).map_or_else(
+            Told::from,
+            Told::Access,
+        ),
         _ => Told::Unplayed,
-    }
-}
-
-// The access that Status asks for.
-fn access(status: u64) -> Told {
-    match Access::from_status(status) {
-        AccessAnswer::Of(access) => Told::Access(access),
-        AccessAnswer::Refused(k) => Told::Refused(k),
     }
 }
 
@@ -73,10 +68,7 @@ pub(crate) fn computed(call: Call) -> Told {
 
 // The access form that an instruction's rs field names, by its number in the trace format.
 fn form(rs: u8) -> Told {
-    match Cop0Op::from_rs(rs) {
-        FromRs::Op(op) => Told::Number(op as u64),
-        FromRs::Refused(k) => Told::Refused(k),
-    }
+    Cop0Op::from_rs(rs).map_or_else(Told::from, |op| Told::Number(op as u64))
 }
 
 fn of_segment(segment: Segment) -> Told {

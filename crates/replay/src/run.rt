@@ -1,14 +1,13 @@
 // A whole trace, from a fresh start to its end or its first fault.
 ghost use Rattle.std.specs.Prelude.{◌≤◌, length};
 
-use crate::cache_answers::of_done;
 use crate::caches::{DataCache, InstructionCache};
 use crate::output::Output;
 use crate::request::{Call, read};
 use crate::row::Part;
-use crate::told::Told;
+use crate::told::{Told, done};
 use crate::{answer, dcache_step, icache_step, input, register_step, session_step, state};
-use cache::{Done, dcache, icache};
+use cache::{Refusal, dcache, icache};
 use session::Session;
 use std::io;
 use std::io::Write;
@@ -78,11 +77,13 @@ impl Player {
     // A fresh session and fresh caches.
     fn renew(&mut self) -> Told {
         self.session = Session::new();
+        self.renew_caches().map_or_else(Told::from, done)
+    }
+
+    fn renew_caches(&mut self) -> Result<(), Refusal> {
         let data = &mut self.data;
-        if let Done::Refused(k) = dcache::new(&mut data.lines, &mut data.tags) {
-            return Told::Refused(k);
-        }
+        dcache::new(&mut data.lines, &mut data.tags)?;
         let instructions = &mut self.instructions;
-        of_done(icache::new(&mut instructions.lines, &mut instructions.tags))
+        icache::new(&mut instructions.lines, &mut instructions.tags)
     }
 }

@@ -3,10 +3,9 @@ use crate::kind::{access_of, exception_of};
 use crate::operand::{byte, flag, word};
 use crate::request::Call;
 use crate::told::Told;
-use addr::{Cached, TranslateAnswer};
-use cop0::AdvanceAnswer;
+use addr::{Cached, Physical};
 use session::{Answer, Op, Session};
-use tlb::LookupAnswer;
+use tlb::Translated;
 
 // An entry is told with the number that its line asks for.
 pub fn play(call: Call, s: &mut Session) -> Told {
@@ -53,35 +52,22 @@ fn told_of(answer: Answer, i: u64) -> Told {
         Answer::Number(value) => Told::Number(value),
         Answer::Flag(is) => Told::Flag(is),
         Answer::Entry(entry) => Told::Entry(i, entry),
-        Answer::Lookup(found) => of_lookup(found),
-        Answer::Translate(found) => of_translation(found),
+        Answer::Lookup(found) => found.map_or_else(Told::from, of_lookup),
+        Answer::Translate(found) => found.map_or_else(Told::from, of_translation),
         Answer::Vector(taken) => Told::from(taken),
-        Answer::Advance(advanced) => of_advance(advanced),
+        Answer::Advance(advanced) => advanced.map_or_else(Told::from, Told::Edge),
     }
 }
 
 // A lookup tells whether the place is uncached, and a translation whether it is cached.
-fn of_lookup(answer: LookupAnswer) -> Told {
-    match answer {
-        LookupAnswer::Found(found) => Told::At(found.addr, found.uncached, found.entry),
-        LookupAnswer::Fault(fault) => Told::from(fault),
-    }
+fn of_lookup(found: Translated) -> Told {
+    Told::At(found.addr, found.uncached, found.entry)
 }
 
-fn of_translation(answer: TranslateAnswer) -> Told {
-    match answer {
-        TranslateAnswer::At(found) => Told::At(found.addr, is_cached(found.cached), found.entry),
-        TranslateAnswer::Failed(error) => Told::from(error),
-    }
+fn of_translation(found: Physical) -> Told {
+    Told::At(found.addr, is_cached(found.cached), found.entry)
 }
 
 pub(crate) fn is_cached(cached: Cached) -> bool {
     matches!(cached, Cached::Yes)
-}
-
-fn of_advance(answer: AdvanceAnswer) -> Told {
-    match answer {
-        AdvanceAnswer::Edge(edge) => Told::Edge(edge),
-        AdvanceAnswer::Refused(k) => Told::Refused(k),
-    }
 }

@@ -62,6 +62,29 @@ impl From<TranslateError> for Told {
     }
 }
 
+impl From<cop0::Refusal> for Told {
+    fn from(refusal: cop0::Refusal) -> Told {
+        Told::Refused(refusal.number())
+    }
+}
+
+impl From<addr::Refusal> for Told {
+    fn from(refusal: addr::Refusal) -> Told {
+        Told::Refused(refusal.number())
+    }
+}
+
+impl From<cache::Refusal> for Told {
+    fn from(refusal: cache::Refusal) -> Told {
+        Told::Refused(refusal.number())
+    }
+}
+
+// Nothing to say.
+pub(crate) fn done(_value: ()) -> Told {
+    Told::Done
+}
+
 // The bytes of a line of each cache.
 #[derive(Clone, Copy)]
 pub enum Line {
