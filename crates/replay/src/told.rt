@@ -62,6 +62,7 @@ impl From<TranslateError> for Told {
     }
 }
 
+// Each crate below has a refusal of its own, with a number; they share no trait.
 impl From<cop0::Refusal> for Told {
     fn from(refusal: cop0::Refusal) -> Told {
         Told::Refused(refusal.number())
