@@ -1,3 +1,2 @@
--- What the proofs of limits and lines cite.
+-- What the proof of a line's limits cites.
 pub mod Limits
-pub mod Scans

@@ -1,19 +1,27 @@
--- Where a scan of a text stops.
-use Rattle.std.specs.Prelude.{ℕ, suc, Bool, not, ◌||◌, cond, List, [], ◌∷◌, eqb}
-use Rattle.replay.specs.declared.line.Stop.{Stop}
-use Rattle.replay.specs.declared.line.Stop.TheVariants.{LineEnd, Blank, Word}
+-- The words of a line.
+use Rattle.std.specs.Prelude.{ℕ, Bool, not, ◌||◌, List, length, drop, eqb}
+use Rattle.std.specs.List.{take_while}
 
 -- a space or a tab
 abbrev pub blank_of : ℕ → Bool
 blank_of b = eqb b 32 || eqb b 9
 
--- whether a scan stops at a byte
-abbrev pub stops_of : Stop → ℕ → Bool
-stops_of LineEnd b = eqb b 10
-stops_of Blank b = blank_of b
-stops_of Word b = not (blank_of b)
+-- the blanks that a line begins with
+abbrev pub blanks_of : List ℕ → List ℕ
+blanks_of line = take_while blank_of line
 
--- how many bytes a scan passes until it stops or the text ends
-unfoldable pub passed : Stop → List ℕ → ℕ
-passed stop [] = 0
-passed stop (b ∷ rest) = cond (stops_of stop b) 0 (suc (passed stop rest))
+-- what stands before a line's first blank, or all where there is none
+abbrev pub unbroken_of : List ℕ → List ℕ
+unbroken_of line = take_while (λ b. not (blank_of b)) line
+
+-- a line from its first word on
+abbrev pub from_word : List ℕ → List ℕ
+from_word line = drop (length (blanks_of line)) line
+
+-- its first word
+abbrev pub first_word : List ℕ → List ℕ
+first_word line = unbroken_of (from_word line)
+
+-- and what stands after that
+abbrev pub past_word : List ℕ → List ℕ
+past_word line = drop (length (first_word line)) (from_word line)

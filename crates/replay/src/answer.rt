@@ -1,139 +1,153 @@
-// Answers as text. Each function adds to what the output buffer holds, and answers how much is held then.
-ghost use Rattle.std.specs.Prelude.{◌≤◌, length};
+// Answers as text: a line is a word, and values with a space before each.
+ghost use Rattle.std.specs.Prelude.{◌≤◌};
 
-use crate::line::{Stop, find};
-use crate::output::{Held, at_most, put};
+use crate::output::Output;
 use crate::request::Fault;
-use crate::told::Told;
+use crate::told::{Line, Told};
+use addr::Access;
+use std::io::Write;
+use std::{fmt, io};
+use tlb::Entry;
+
+// A value as it is written: a number of 16 digits, a flag, a decimal number, or the bytes of a line.
+#[derive(Clone, Copy)]
+pub(crate) enum Value {
+    Number(u64),
+    Flag(bool),
+    Decimal(u64),
+    Bytes(Line),
+}
+
+use Value::{Bytes, Decimal, Flag, Number};
 
 // An operation's answer.
-pub fn write(rt: &HostRuntime, out: &mut [u8], used: usize, told: Told) -> Held {
-    let values = told.values;
-    write_row(rt, out, used, told.row, &values)
+pub fn write(out: &mut Output, told: Told) -> io::Result<()> {
+    match told {
+        Told::Done => line(out, b"ok", &[]),
+        Told::Number(value) => line(out, b"=", &[Number(value)]),
+        Told::Flag(is) => line(out, b"=", &[Flag(is)]),
+        Told::Edge(edge) => line(out, b"edge", &[Flag(edge)]),
+        Told::Refused(k) => line(out, b"refused", &[Decimal(k as u64)]),
+        Told::At(addr, is, entry) => {
+            line(
+                out,
+                b"at",
+                &[Number(addr as u64), Flag(is), Number(entry as u64)],
+            )
+        }
+        Told::Refill => line(out, b"refill", &[]),
+        Told::Invalid => line(out, b"invalid", &[]),
+        Told::Modified => line(out, b"modified", &[]),
+        Told::Address => line(out, b"address", &[]),
+        Told::Mapped => line(out, b"mapped", &[]),
+        Told::Direct(addr, cached) => line(out, b"direct", &[Number(addr as u64), Flag(cached)]),
+        Told::Access(access) => write_access(out, access),
+        Told::Vector(addr, cycles) => line(out, b"vector", &[Number(addr), Number(cycles as u64)]),
+        Told::Entry(i, entry) => write_entry(out, i, entry),
+        Told::Hit => line(out, b"hit", &[]),
+        Told::Fill => line(out, b"fill", &[]),
+        Told::Stays => line(out, b"none", &[]),
+        Told::Evict(addr, bytes) => line(out, b"evict", &[Number(addr as u64), Bytes(bytes)]),
+        Told::Line(tag_word, bytes) => write_line(out, tag_word, bytes),
+        Told::Unplayed => line(out, b"unplayed", &[]),
+    }
+}
+
+impl fmt::Display for Fault {
+    fn fmt<W: fmt::Write>(&self, f: &mut fmt::Formatter<W>) -> fmt::Result {
+        f.write_str(match *self {
+            Fault::UnknownOperation => "unknown operation",
+            Fault::OperandCount => "wrong number of operands",
+            Fault::BadNumber => "bad number",
+            Fault::OutOfRange => "out of range",
+        })
+    }
 }
 
 // What is wrong with a line: the last line of a run.
-pub fn write_fault(rt: &HostRuntime, out: &mut [u8], used: usize, line: u64, fault: Fault) -> Held {
-    let used = put(rt, out, used, b"line ")?;
-    let used = decimal(rt, out, used, line)?;
-    match fault {
-        Fault::UnknownOperation => put(rt, out, used, b": unknown operation\n"),
-        Fault::OperandCount => put(rt, out, used, b": wrong number of operands\n"),
-        Fault::BadNumber => put(rt, out, used, b": bad number\n"),
-        Fault::OutOfRange => put(rt, out, used, b": out of range\n"),
-    }
+pub fn write_fault(out: &mut Output, number: u64, fault: Fault) -> io::Result<()> {
+    writeln!(out, "line {number}: {fault}")
 }
 
-// A row of the answers' table, with its values. Rows stand in any order: each is its own letter, a word, and a letter for each
-// value: `n` is a number of 16 digits, `f` a flag, `d` a decimal number, and `j` 16 digits that are joined to those before.
-pub fn write_row(rt: &HostRuntime, out: &mut [u8], used: usize, row: u8, values: &[u64]) -> Held {
-    filled(
-        rt,
+// An entry, with its number before it.
+pub(crate) fn write_entry(out: &mut Output, i: u64, entry: Entry) -> io::Result<()> {
+    let even = entry.lo0;
+    let odd = entry.lo1;
+    line(
         out,
-        used,
-        b"a ok
-b = n
-c = f
-d edge f
-e refused d
-f at nfn
-g refill
-h invalid
-i modified
-j address
-k mapped
-l direct nf
-m access nff
-n vector nn
-o entry nnnnfnnnffnnff
-p hit
-q fill
-r none
-s evict nnj
-t evict nnjjj
-u line nffnj
-v line nffnjjj
-w regs nnnnnnnnnnnnnnnnnnnnnnnnnnnnnnnn
-x clock nnnnnn
-y itlb nnnf
-z unplayed
-",
-        row,
-        values,
+        b"entry",
+        &[
+            Number(i),
+            Number(entry.page_mask as u64),
+            Number(entry.vpn2),
+            Number(entry.asid as u64),
+            Flag(entry.global),
+            Number(entry.region as u64),
+            Number(even.pfn as u64),
+            Number(even.c as u64),
+            Flag(even.dirty),
+            Flag(even.valid),
+            Number(odd.pfn as u64),
+            Number(odd.c as u64),
+            Flag(odd.dirty),
+            Flag(odd.valid),
+        ],
     )
 }
 
-fn filled(
-    rt: &HostRuntime,
-    out: &mut [u8],
-    used: usize,
-    table: &[u8],
-    row: u8,
-    values: &[u64],
-) -> Held {
-    let at = start_of(table, row);
-    let end = find(table, at, Stop::LineEnd);
-    let used = written(rt, out, used, &table[at..end], values)?;
-    put(rt, out, used, b"\n")
+fn write_access(out: &mut Output, access: Access) -> io::Result<()> {
+    let mode = access.mode as u64;
+    line(
+        out,
+        b"access",
+        &[Number(mode), Flag(access.wide), Flag(access.erl)],
+    )
 }
 
-// Where a row starts, or the end of a table that has no such row.
-fn start_of(table: &[u8], row: u8) -> usize
-    ensures { result ≤ length table.now }
-{
-    let mut at = 0;
-    while at < table.len() {
-        if table[at] == row {
-            return at;
-        }
-        at = find(table, at, Stop::LineEnd) + 1;
-    }
-    table.len()
+// A cache's line. Of its tag word bits 19..0 are the tag, bit 20 is valid and bit 21 is dirty.
+fn write_line(out: &mut Output, tag_word: u32, bytes: Line) -> io::Result<()> {
+    let tag = (tag_word % 0x10_0000) as u64;
+    let valid = tag_word / 0x10_0000 % 2 == 1;
+    let dirty = tag_word / 0x20_0000 % 2 == 1;
+    line(
+        out,
+        b"line",
+        &[Number(tag), Flag(valid), Flag(dirty), Bytes(bytes)],
+    )
 }
 
-// Where a row's word starts.
-const WORD: usize = 2;
-
-// A row's word, and the values of its letters.
-fn written(rt: &HostRuntime, out: &mut [u8], used: usize, row: &[u8], values: &[u64]) -> Held {
-    let from = at_most(WORD, row.len());
-    let end = find(row, from, Stop::Blank);
-    let mut held = put(rt, out, used, &row[from..end])?;
-    let mut at = end;
-    let mut i = 0;
-    while i < values.len() {
-        at += 1;
-        if row.len() <= at {
-            return Ok(held);
-        }
-        held = of_letter(rt, out, held, row[at], values[i])?;
-        i += 1;
+// A line of text: a word and values.
+pub(crate) fn line(out: &mut Output, word: &[u8], values: &[Value]) -> io::Result<()> {
+    out.write_all(word)?;
+    for value in values {
+        out.write_all(b" ")?;
+        put_value(out, *value)?;
     }
-    Ok(held)
+    out.write_all(b"\n")
 }
 
-fn of_letter(rt: &HostRuntime, out: &mut [u8], used: usize, letter: u8, value: u64) -> Held {
-    if letter == b'j' {
-        return hexadecimal(rt, out, used, value, 16);
-    }
-    let used = put(rt, out, used, b" ")?;
-    match letter {
-        b'd' => decimal(rt, out, used, value),
-        b'f' => hexadecimal(rt, out, used, value, 1),
-        _ => hexadecimal(rt, out, used, value, 16),
+fn put_value(out: &mut Output, value: Value) -> io::Result<()> {
+    match value {
+        Number(number) => put_digits(out, number, 16),
+        Flag(is) => put_digits(out, is as u64, 1),
+        Decimal(number) => write!(out, "{number}"),
+        Bytes(Line::Data(bytes)) => put_bytes(out, &bytes),
+        Bytes(Line::Instructions(bytes)) => put_bytes(out, &bytes),
     }
 }
 
-fn hexadecimal(rt: &HostRuntime, out: &mut [u8], used: usize, value: u64, width: usize) -> Held
+fn put_bytes(out: &mut Output, bytes: &[u8]) -> io::Result<()> {
+    for byte in bytes {
+        put_digits(out, *byte as u64, 2)?;
+    }
+    Ok(())
+}
+
+// The `width` lowest hexadecimal digits of a number. They are made by `digits`, whose contract says which they are.
+fn put_digits(out: &mut Output, number: u64, width: usize) -> io::Result<()>
     requires { width ≤ 16 }
 {
     let mut text = [0u8; 16];
-    digits::put(&mut text, 0, width, value);
-    put(rt, out, used, &text[..width])
-}
-
-fn decimal(rt: &HostRuntime, out: &mut [u8], used: usize, value: u64) -> Held {
-    let mut digits = [0u8; 20];
-    let n = io::decimal(value, &mut digits);
-    put(rt, out, used, &digits[..n])
+    digits::put(&mut text, 0, width, number);
+    out.write_all(&text[..width])
 }

@@ -1,4 +1,5 @@
-// What the numbers of a line stand for. It doesn't matter what one over its limit stands for: its line is turned away.
+// What the numbers of a line stand for. It doesn't matter what one over its limit stands for: its line is turned away. These are
+// functions and no `From`, since a number and what it stands for are both types of other crates.
 use crate::operand::{byte, flag};
 use addr::{Access, Mode};
 use exception::{Exception, VectorKind};

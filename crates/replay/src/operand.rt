@@ -1,58 +1,35 @@
 // The operands of a line.
-ghost use Rattle.std.specs.Prelude.{◌≤◌, length};
-
-use crate::line;
-use crate::line::Stop;
-use digits::Number;
+use crate::words::Words;
 
 // The most operands that an operation takes.
 pub const MOST: usize = 6;
 
-// How many operands there are, where `MOST + 1` is any number of too many; whether all are numbers; and those numbers.
+// How many operands there are, and their numbers, if all are numbers. One past the most has no place, and 0 stands where none is.
 #[derive(Clone, Copy)]
 pub(crate) struct Operands {
     pub count: usize,
-    pub good: bool,
-    pub values: [u64; MOST],
+    pub values: Option<[u64; MOST]>,
 }
 
 impl Operands {
-    // The words of a line from `at` on.
-    pub(crate) fn of(line: &[u8], at: usize) -> Operands
-        requires { at ≤ length line.now }
-    {
-        let mut all = Operands {
-            count: 0,
-            good: true,
-            values: [0; MOST],
-        };
-        let mut from = line::find(line, at, Stop::Word);
-        while from < line.len() {
-            let to = line::find(line, from + 1, Stop::Blank);
-            all = all.with(digits::parse(&line[from..to]));
-            from = line::find(line, to, Stop::Word);
+    pub(crate) fn of(words: Words) -> Operands {
+        Operands {
+            count: words.count(),
+            values: numbers(words),
         }
-        all
-    }
-
-    fn with(mut self, next: Number) -> Operands {
-        let at = self.count;
-        if MOST < at {
-            return self;
-        }
-        self.count = at + 1;
-        let Number::Value(value) = next else {
-            self.good = false;
-            return self;
-        };
-        if at < MOST {
-            self.values[at] = value;
-        }
-        self
     }
 }
 
-// What an operand of 8 bits, of 32 bits and a flag hold. One over its limit has its line turned away.
+fn numbers(words: Words) -> Option<[u64; MOST]> {
+    let mut values = [0; MOST];
+    for (value, word) in values.iter_mut().zip(words) {
+        *value = digits::parse(word)?;
+    }
+    Some(values)
+}
+
+// What an operand of 8 bits, of 32 bits and a flag hold. One over its limit has its line turned away, so that a `try_from` would
+// have an error for nothing.
 pub fn byte(value: u64) -> u8 {
     (value % 256) as u8
 }

@@ -1,34 +1,11 @@
 // The operations of a trace.
 use crate::row::Row;
 
-// The parts of the program that play them, by the letters of the table: a session's own operations; a fresh start; the session
-// told whole; what writes its registers, asks them, or asks nothing but the numbers of a line; and of each cache what needs its
-// tag words alone, and what needs its lines too.
-pub const SESSION: u8 = b's';
-
-pub const NEW: u8 = b'n';
-
-pub const STATE: u8 = b't';
-
-pub const WRITTEN: u8 = b'w';
-
-pub const ASKED: u8 = b'a';
-
-pub const COMPUTED: u8 = b'c';
-
-pub const D_TAGS: u8 = b'd';
-
-pub const D_LINES: u8 = b'D';
-
-pub const I_TAGS: u8 = b'i';
-
-pub const I_LINES: u8 = b'I';
-
 // The table of operations: a row for each, in any order. Its first letter is the part that plays it, its second the arm there; then
 // come its name, and a letter for each operand, which says what that may be: `f` a flag, `m` a mode, `v` a vector's kind, `e` an
 // exception, `A` and `B` what that comes with, `b` 8 bits, `w` 32 bits and `l` 64 bits. A row without an arm answers `unplayed`,
 // which no trace may.
-pub(crate) fn row_of(name: &[u8], exc: u64) -> Row {
+pub(crate) fn row_of(name: &[u8]) -> Option<Row<'static>> {
     Row::of(
         b"sa mfc0 b
 sb dmfc0 b
@@ -92,6 +69,5 @@ Ic i_flush_hit w
 Id i_line l
 ",
         name,
-        exc,
     )
 }

@@ -1,55 +1,56 @@
-// Text on its way to standard output, held in a lent buffer until there is much to write.
-//
-// `out` is the buffer, and `used` says how many of its bytes are held; more than it has stands for all of them. What adds to
-// them answers how many there are then.
-ghost use Rattle.std.specs.Prelude.{◌+◌, ◌≤◌, ◌≡◌, length};
-ghost use Rattle.std.proofs.Math.Seq.{paste};
+// Text on its way to standard output, held until there is much to write. The memory is fixed: a `BufWriter` takes its own from
+// the heap.
+ghost use Rattle.std.specs.Prelude.{◌≤◌};
 
 use std::io;
+use std::io::Write;
 
-// How many bytes are held then, or why some could not be written.
-pub type Held = io::Result<usize>;
+// How many bytes are held at most.
+const SIZE: usize = 65536;
 
-// Adds `bytes`. Where they find no room, what is held is written first, and so are bytes that no empty buffer has room
-// for.
-pub fn put(rt: &HostRuntime, out: &mut [u8], used: usize, bytes: &[u8]) -> Held {
-    let held = at_most(used, out.len());
-    if bytes.len() <= out.len() - held {
-        return Ok(copy(out, held, bytes));
-    }
-    flush(rt, out, held)?;
-    if bytes.len() <= out.len() {
-        return Ok(copy(out, 0, bytes));
-    }
-    flush(rt, bytes, bytes.len())?;
-    Ok(0)
+// The first `used` bytes of `text` are still to be written.
+#[derive(Drop)]
+pub struct Output<'a> {
+    rt: &'a HostRuntime,
+    text: [u8; SIZE],
+    used: usize,
+    ghost held: { used ≤ 65536 },
 }
 
-// Writes what is held. Where that fails, the error goes up to `main` and ends the program.
-pub fn flush(rt: &HostRuntime, out: &[u8], used: usize) -> io::Result<()> {
-    let held = at_most(used, out.len());
-    rt.write_all(&out[0..held])
+impl<'a> Output<'a> {
+    pub(crate) fn new(rt: &'a HostRuntime) -> Output<'a> {
+        Output {
+            rt,
+            text: [0; SIZE],
+            used: 0,
+        }
+    }
 }
 
-pub(crate) fn at_most(n: usize, most: usize) -> usize
-    ensures { result ≤ most }
-{
-    if most < n {
-        return most;
+impl Write for Output<'_> {
+    fn write(&mut self, bytes: &[u8]) -> io::Result<usize> {
+        self.write_all(bytes)?;
+        Ok(bytes.len())
     }
-    n
-}
 
-// Copies `bytes` to place `at`, and answers the place after them. All else in `out` stays as it was.
-fn copy(out: &mut [u8], at: usize, bytes: &[u8]) -> usize
-    requires { at + length bytes.now ≤ length out.old }
-    ensures value { result ≡ at + length bytes.now }
-    ensures out_after { out.new ≡ paste out.old at bytes.now (length bytes.now) }
-{
-    let mut i = 0;
-    while i < bytes.len() {
-        out[at + i] = bytes[i];
-        i += 1;
+    // Where bytes find no room, what is held is written first, and so are bytes that no empty buffer has room for.
+    fn write_all(&mut self, bytes: &[u8]) -> io::Result<()> {
+        if SIZE - self.used < bytes.len() {
+            self.flush()?;
+        }
+        if SIZE - self.used < bytes.len() {
+            return self.rt.write_all(bytes);
+        }
+        let end = self.used + bytes.len();
+        self.text[self.used..end].copy_from_slice(bytes);
+        self.used = end;
+        Ok(())
     }
-    at + i
+
+    // Where writing fails, the error goes up to `main` and ends the program.
+    fn flush(&mut self) -> io::Result<()> {
+        self.rt.write_all(&self.text[..self.used])?;
+        self.used = 0;
+        Ok(())
+    }
 }

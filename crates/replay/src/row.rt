@@ -1,81 +1,87 @@
 // A row of the operations' table: two letters for who plays it, a name, and then a letter for each operand.
-use crate::line::{Stop, find};
-use crate::operand::MOST;
+ghost use Rattle.std.specs.Prelude.{◌≡◌};
+ghost use Rattle.replay.specs.Request.{greatest_of, greatest_a_of, greatest_b_of};
 
-// Who plays a row's operation, and how many operands it has, with the greatest number that each may be.
+use crate::words::Words;
+
+// The parts of the program that play operations.
 #[derive(Clone, Copy)]
-pub(crate) struct Row {
-    pub known: bool,
-    pub part: u8,
+pub enum Part {
+    // A session's own operations.
+    Session,
+    // A fresh start.
+    New,
+    // The session told whole.
+    State,
+    // What writes a session's registers.
+    Written,
+    // What asks them.
+    Asked,
+    // What asks nothing but the numbers of a line.
+    Computed,
+    // Of each cache what needs its tag words alone, and what needs its lines too.
+    DataTags,
+    DataLines,
+    InstructionTags,
+    InstructionLines,
+}
+
+impl Part {
+    // The part of a letter of the table.
+    fn from_letter(letter: u8) -> Option<Part> {
+        match letter {
+            b's' => Some(Part::Session),
+            b'n' => Some(Part::New),
+            b't' => Some(Part::State),
+            b'w' => Some(Part::Written),
+            b'a' => Some(Part::Asked),
+            b'c' => Some(Part::Computed),
+            b'd' => Some(Part::DataTags),
+            b'D' => Some(Part::DataLines),
+            b'i' => Some(Part::InstructionTags),
+            b'I' => Some(Part::InstructionLines),
+            _ => None,
+        }
+    }
+}
+
+// Who plays a row's operation, and a letter for each of its operands.
+#[derive(Clone, Copy)]
+pub(crate) struct Row<'t> {
+    pub part: Part,
     pub arm: u8,
-    pub count: usize,
-    pub limits: [u64; MOST],
+    pub letters: &'t [u8],
 }
 
-// Where a row's name starts.
-const NAME: usize = 3;
-
-impl Row {
-    // The row of a name, on a line whose first operand is `exc`.
-    pub(crate) fn of(table: &[u8], name: &[u8], exc: u64) -> Row {
-        let mut at = 0;
-        while at < table.len() {
-            let from = at;
-            let end = find(table, from, Stop::LineEnd);
-            if is_named(&table[from..end], name) {
-                return read(&table[from..end], exc);
-            }
-            at = end + 1;
-        }
-        Row::new(false, 0, 0)
+impl<'t> Row<'t> {
+    // The row of a name, if the table has one.
+    pub(crate) fn of(table: &'t [u8], name: &[u8]) -> Option<Row<'t>> {
+        table
+            .split(|b| *b == b'\n')
+            .find_map(|line| Row::named(line, name))
     }
 
-    fn new(known: bool, part: u8, arm: u8) -> Row {
-        Row {
-            known,
-            part,
-            arm,
-            count: 0,
-            limits: [0; MOST],
+    // The row on a line of the table, if it is the name's.
+    fn named(line: &'t [u8], name: &[u8]) -> Option<Row<'t>> {
+        let mut words = Words(line);
+        let [part, arm] = words.next()? else {
+            return None;
+        };
+        if words.next()? != name {
+            return None;
         }
-    }
-
-    fn with(mut self, limit: u64) -> Row {
-        let at = self.count;
-        if at < MOST {
-            self.limits[at] = limit;
-            self.count = at + 1;
-        }
-        self
+        Some(Row {
+            part: Part::from_letter(*part)?,
+            arm: *arm,
+            letters: words.next().unwrap_or(b""),
+        })
     }
 }
 
-fn is_named(row: &[u8], name: &[u8]) -> bool {
-    if row.len() < NAME {
-        return false;
-    }
-    let end = find(row, NAME, Stop::Blank);
-    &row[NAME..end] == name
-}
-
-// A row's two letters, and those of its operands.
-fn read(row: &[u8], exc: u64) -> Row {
-    if row.len() < NAME {
-        return Row::new(false, 0, 0);
-    }
-    let mut all = Row::new(true, row[0], row[1]);
-    let mut i = find(row, NAME, Stop::Blank);
-    while i < row.len() {
-        if row[i] != b' ' {
-            all = all.with(greatest(row[i], exc));
-        }
-        i += 1;
-    }
-    all
-}
-
-// The greatest number that an operand of a letter may be.
-fn greatest(letter: u8, exc: u64) -> u64 {
+// The greatest number that an operand of a letter may be, on a line whose first operand is `exc`.
+pub(crate) fn greatest(letter: u8, exc: u64) -> u64
+    ensures { result ≡ greatest_of exc letter }
+{
     match letter {
         b'f' => 1,
         b'm' => 2,
@@ -90,7 +96,9 @@ fn greatest(letter: u8, exc: u64) -> u64 {
 }
 
 // An exception's operand A: whether it is a store, a coprocessor's unit, or nothing.
-fn greatest_a(exc: u64) -> u64 {
+fn greatest_a(exc: u64) -> u64
+    ensures { result ≡ greatest_a_of exc }
+{
     match exc {
         1 | 10 | 11 => 1,
         7 | 8 => 0xff,
@@ -99,7 +107,9 @@ fn greatest_a(exc: u64) -> u64 {
 }
 
 // An exception's operand B: whether a refill is wide, or nothing.
-fn greatest_b(exc: u64) -> u64 {
+fn greatest_b(exc: u64) -> u64
+    ensures { result ≡ greatest_b_of exc }
+{
     match exc {
         10 => 1,
         _ => 0,

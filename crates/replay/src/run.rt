@@ -1,156 +1,89 @@
 // A whole trace, from a fresh start to its end or its first fault.
 ghost use Rattle.std.specs.Prelude.{◌≤◌, length};
 
-use crate::line::{Stop, find};
-use crate::output::Held;
-use crate::request::{Asked, Call, Fault, read};
-use crate::told::Told;
-use crate::{answer, cache_step, operations, output, state, step};
+use crate::caches::{DataCache, InstructionCache};
+use crate::output::Output;
+use crate::request::{Call, read};
+use crate::row::Part;
+use crate::told::{Told, done};
+use crate::{answer, dcache_step, icache_step, input, register_step, session_step, state};
+use cache::{Refusal, dcache, icache};
 use session::Session;
 use std::io;
+use std::io::Write;
 
-// A run between two lines: the session, how much of the output buffer is used, and whether a fault ended the run.
-#[derive(Clone, Copy)]
-struct Run {
-    session: Session,
-    used: usize,
-    ended: bool,
-}
-
-// The trace in the first `n` bytes of `room`. One that fills `room` is over the limit. The caches' memory, all zero as in a
-// fresh cache, is lent to everything below: first the data cache's 8192 bytes and 512 tag words, then the instruction cache's.
-pub fn play(rt: &HostRuntime, room: &[u8], n: usize, out: &mut [u8], used: usize) -> Held
-    requires { n ≤ length room.now }
-{
-    if n == room.len() {
-        return output::put(rt, out, used, b"trace too long\n");
+// A trace. A last line that no `\n` ends counts; nothing after the last `\n` is no line.
+pub fn play(text: &[u8], out: &mut Output) -> io::Result<()> {
+    if input::LIMIT < text.len() {
+        return out.write_all(b"trace too long\n");
     }
-    let mut lines = [0u8; 24576];
-    let mut tags = [0u32; 1024];
-    play_lines(rt, &room[0..n], out, used, &mut lines, &mut tags)
-}
-
-// A last line that no `\n` ends counts; nothing after the last `\n` is no line.
-fn play_lines(
-    rt: &HostRuntime,
-    text: &[u8],
-    out: &mut [u8],
-    used: usize,
-    lines: &mut [u8],
-    tags: &mut [u32],
-) -> Held {
-    let mut run = Run {
-        session: Session::new(),
-        used,
-        ended: false,
-    };
-    let mut at = 0;
-    let mut number = 0;
-    while at < text.len() {
-        let from = at;
-        at = find(text, from, Stop::LineEnd) + 1;
-        number += 1;
-        run = play_line(rt, text, from, number, run, out, lines, tags)?;
-        if run.ended {
-            return Ok(run.used);
+    let mut player = Player::new();
+    for (number, line) in (1u64..).zip(text.split_inclusive(|b| *b == b'\n')) {
+        match read(without_end(line)) {
+            Ok(None) => {}
+            Ok(Some(call)) => player.play(call, out)?,
+            Err(fault) => return answer::write_fault(out, number, fault),
         }
     }
-    Ok(run.used)
+    Ok(())
 }
 
-// The line that starts at `at`; its number is for what may be wrong with it.
-fn play_line(
-    rt: &HostRuntime,
-    text: &[u8],
-    at: usize,
-    number: u64,
-    run: Run,
-    out: &mut [u8],
-    lines: &mut [u8],
-    tags: &mut [u32],
-) -> io::Result<Run> {
-    let request = read(text, at);
-    let asked = request.asked;
-    match asked {
-        Asked::Nothing => Ok(run),
-        Asked::Play => play_call(rt, request.call, run, out, lines, tags),
-        Asked::Wrong(fault) => stopped(rt, number, fault, run, out),
+// A line without its `\n` and without the one `\r` that may stand right before that. A line that the text's end cuts off has no
+// `\n`.
+fn without_end(line: &[u8]) -> &[u8]
+    ensures { length result.now ≤ length line.now }
+{
+    match line {
+        [words @ .., b'\r', b'\n'] => words,
+        [words @ .., b'\n'] => words,
+        _ => line,
     }
 }
 
-// What is wrong ends the run.
-fn stopped(
-    rt: &HostRuntime,
-    number: u64,
-    fault: Fault,
-    run: Run,
-    out: &mut [u8],
-) -> io::Result<Run> {
-    let session = run.session;
-    let used = answer::write_fault(rt, out, run.used, number, fault)?;
-    Ok(Run {
-        session,
-        used,
-        ended: true,
-    })
-}
-
-// One operation and its answer.
-fn play_call(
-    rt: &HostRuntime,
-    call: Call,
-    run: Run,
-    out: &mut [u8],
-    lines: &mut [u8],
-    tags: &mut [u32],
-) -> io::Result<Run> {
-    let part = call.part;
-    if part == operations::NEW {
-        return told(
-            rt,
-            cache_step::renew(lines, tags),
-            Session::new(),
-            run.used,
-            out,
-        );
-    }
-    if cache_step::plays(part) {
-        return told(
-            rt,
-            cache_step::play(call, lines, tags),
-            run.session,
-            run.used,
-            out,
-        );
-    }
-    on_session(rt, call, run, out)
-}
-
-fn on_session(rt: &HostRuntime, call: Call, run: Run, out: &mut [u8]) -> io::Result<Run> {
-    let session = run.session;
-    if call.part == operations::STATE {
-        return Ok(running(session, state::write(rt, out, run.used, session)?));
-    }
-    let played = step::play(call, session);
-    let answer = played.told;
-    let after = played.session;
-    told(rt, answer, after, run.used, out)
-}
-
-fn told(
-    rt: &HostRuntime,
-    answer: Told,
+// What plays a trace: a session and both caches.
+#[derive(Drop)]
+struct Player {
     session: Session,
-    used: usize,
-    out: &mut [u8],
-) -> io::Result<Run> {
-    Ok(running(session, answer::write(rt, out, used, answer)?))
+    data: DataCache,
+    instructions: InstructionCache,
 }
 
-fn running(session: Session, used: usize) -> Run {
-    Run {
-        session,
-        used,
-        ended: false,
+impl Player {
+    fn new() -> Player {
+        Player {
+            session: Session::new(),
+            data: DataCache::new(),
+            instructions: InstructionCache::new(),
+        }
+    }
+
+    // One operation and its answer.
+    fn play(&mut self, call: Call, out: &mut Output) -> io::Result<()> {
+        let told = match call.part {
+            Part::State => return state::write(out, self.session),
+            Part::New => self.renew(),
+            Part::Session => session_step::play(call, &mut self.session),
+            Part::Written => register_step::written(call, &mut self.session.cop0),
+            Part::Asked => register_step::asked(call, self.session.cop0),
+            Part::Computed => register_step::computed(call),
+            Part::DataTags => dcache_step::on_tags(call, &mut self.data),
+            Part::DataLines => dcache_step::on_lines(call, &mut self.data),
+            Part::InstructionTags => icache_step::on_tags(call, &mut self.instructions),
+            Part::InstructionLines => icache_step::on_lines(call, &mut self.instructions),
+        };
+        answer::write(out, told)
+    }
+
+    // A fresh session and fresh caches.
+    fn renew(&mut self) -> Told {
+        self.session = Session::new();
+        self.renew_caches().map_or_else(Told::from, done)
+    }
+
+    fn renew_caches(&mut self) -> Result<(), Refusal> {
+        let data = &mut self.data;
+        dcache::new(&mut data.lines, &mut data.tags)?;
+        let instructions = &mut self.instructions;
+        icache::new(&mut instructions.lines, &mut instructions.tags)
     }
 }

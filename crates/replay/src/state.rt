@@ -1,50 +1,57 @@
-// The session whole, as text. Each function adds to what the output buffer holds, and answers how much is held then.
-use crate::output::Held;
-use crate::session_step::of_entry;
-use crate::{answer, told};
+// The session whole, as text.
+use crate::answer;
+use crate::answer::Value::{Flag, Number};
+use crate::output::Output;
 use cop0::Cop0;
 use session::Session;
+use std::io;
 use tlb::Tlb;
 
-pub fn write(rt: &HostRuntime, out: &mut [u8], used: usize, s: Session) -> Held {
-    let used = of_registers(rt, out, used, s.cop0)?;
-    let used = of_micro(rt, out, used, s.tlb)?;
-    of_entries(rt, out, used, s.tlb)
+pub fn write(out: &mut Output, s: Session) -> io::Result<()> {
+    write_registers(out, s.cop0)?;
+    write_clock(out, s.cop0)?;
+    write_micro(out, s.tlb)?;
+    write_entries(out, s.tlb)
 }
 
-// The registers as stored, and the clock.
-fn of_registers(rt: &HostRuntime, out: &mut [u8], used: usize, c: Cop0) -> Held {
-    let regs = c.regs;
-    let clock = [
-        c.now,
-        c.count_epoch_value as u64,
-        c.count_epoch_tick,
-        c.last_count as u64,
-        c.ec as u64,
-        c.write_latch,
-    ];
-    let used = answer::write_row(rt, out, used, told::REGS, &regs)?;
-    answer::write_row(rt, out, used, told::CLOCK, &clock)
+// The registers as stored.
+fn write_registers(out: &mut Output, c: Cop0) -> io::Result<()> {
+    answer::line(out, b"regs", &c.regs.map(Number))
+}
+
+fn write_clock(out: &mut Output, c: Cop0) -> io::Result<()> {
+    answer::line(
+        out,
+        b"clock",
+        &[
+            Number(c.now),
+            Number(c.count_epoch_value as u64),
+            Number(c.count_epoch_tick),
+            Number(c.last_count as u64),
+            Number(c.ec as u64),
+            Number(c.write_latch),
+        ],
+    )
 }
 
 // The micro-TLB, and whether the table is shut down.
-fn of_micro(rt: &HostRuntime, out: &mut [u8], used: usize, t: Tlb) -> Held {
-    let slots = t.itlb;
-    let values = [
-        slots[0] as u64,
-        slots[1] as u64,
-        t.itlb_lru as u64,
-        t.shutdown as u64,
-    ];
-    answer::write_row(rt, out, used, told::ITLB, &values)
+fn write_micro(out: &mut Output, t: Tlb) -> io::Result<()> {
+    let [first, second] = t.itlb;
+    answer::line(
+        out,
+        b"itlb",
+        &[
+            Number(first as u64),
+            Number(second as u64),
+            Number(t.itlb_lru as u64),
+            Flag(t.shutdown),
+        ],
+    )
 }
 
-fn of_entries(rt: &HostRuntime, out: &mut [u8], used: usize, t: Tlb) -> Held {
-    let mut held = used;
-    let mut i = 0;
-    while i < 32 {
-        held = answer::write(rt, out, held, of_entry(i as u64, t.entry(i)))?;
-        i += 1;
+fn write_entries(out: &mut Output, t: Tlb) -> io::Result<()> {
+    for i in 0..32 {
+        answer::write_entry(out, i as u64, t.entry(i))?;
     }
-    Ok(held)
+    Ok(())
 }

@@ -1,106 +1,106 @@
-// What an operation answers, as a row of the answers' table and the numbers that go into it.
-
-// The most numbers that an answer has.
-pub const MOST: usize = 14;
+// What an operation answers.
+use addr::{Access, TranslateError};
+use exception::Dispatch;
+use tlb::{Entry, TlbFault};
 
 #[derive(Clone, Copy)]
-pub struct Told {
-    pub row: u8,
-    pub values: [u64; MOST],
+pub enum Told {
+    Done,
+    Number(u64),
+    Flag(bool),
+    // Whether Count came to Compare.
+    Edge(bool),
+    Refused(u8),
+    // A physical address, a flag of it, and the number of the TLB's entry.
+    At(u32, bool, u8),
+    Refill,
+    Invalid,
+    Modified,
+    Address,
+    Mapped,
+    // A physical address, and whether it is cached.
+    Direct(u32, bool),
+    Access(Access),
+    // An address, and the cycles that it costs.
+    Vector(u64, u32),
+    // An entry and its number.
+    Entry(u64, Entry),
+    Hit,
+    Fill,
+    // No line leaves.
+    Stays,
+    // The address of a line that leaves, and its bytes.
+    Evict(u32, Line),
+    // A line's tag word and its bytes.
+    Line(u32, Line),
+    // No answer: an operation that no arm plays.
+    Unplayed,
 }
 
-// The rows, by their letters in the table of `answer`.
-pub const OK: u8 = b'a';
+impl From<Dispatch> for Told {
+    fn from(taken: Dispatch) -> Told {
+        Told::Vector(taken.vector, taken.stall_cycles)
+    }
+}
 
-pub const NUMBER: u8 = b'b';
-
-pub const FLAG: u8 = b'c';
-
-pub const EDGE: u8 = b'd';
-
-pub const REFUSED: u8 = b'e';
-
-pub const AT: u8 = b'f';
-
-pub const REFILL: u8 = b'g';
-
-pub const INVALID: u8 = b'h';
-
-pub const MODIFIED: u8 = b'i';
-
-pub const ADDRESS: u8 = b'j';
-
-pub const MAPPED: u8 = b'k';
-
-pub const DIRECT: u8 = b'l';
-
-pub const ACCESS: u8 = b'm';
-
-pub const VECTOR: u8 = b'n';
-
-pub const ENTRY: u8 = b'o';
-
-pub const HIT: u8 = b'p';
-
-pub const FILL: u8 = b'q';
-
-pub const NONE: u8 = b'r';
-
-pub const DATA_EVICT: u8 = b's';
-
-pub const INSTRUCTION_EVICT: u8 = b't';
-
-pub const DATA_LINE: u8 = b'u';
-
-pub const INSTRUCTION_LINE: u8 = b'v';
-
-pub const REGS: u8 = b'w';
-
-pub const CLOCK: u8 = b'x';
-
-pub const ITLB: u8 = b'y';
-
-// No answer: an operation that no arm plays.
-pub const UNPLAYED: u8 = b'z';
-
-impl Told {
-    // A word alone.
-    pub fn plain(row: u8) -> Told {
-        Told {
-            row,
-            values: [0; MOST],
+impl From<TlbFault> for Told {
+    fn from(fault: TlbFault) -> Told {
+        match fault {
+            TlbFault::Refill => Told::Refill,
+            TlbFault::Invalid => Told::Invalid,
+            TlbFault::Modified => Told::Modified,
         }
     }
+}
 
-    pub fn one(row: u8, value: u64) -> Told {
-        Told::plain(row).with(0, value)
-    }
-
-    pub fn two(row: u8, first: u64, second: u64) -> Told {
-        Told::one(row, first).with(1, second)
-    }
-
-    pub fn three(row: u8, first: u64, second: u64, third: u64) -> Told {
-        Told::two(row, first, second).with(2, third)
-    }
-
-    pub fn number(value: u64) -> Told {
-        Told::one(NUMBER, value)
-    }
-
-    pub fn flag(is: bool) -> Told {
-        Told::one(FLAG, is as u64)
-    }
-
-    pub fn refused(k: u8) -> Told {
-        Told::one(REFUSED, k as u64)
-    }
-
-    // With another number at a place.
-    pub fn with(mut self, at: usize, value: u64) -> Told {
-        if at < MOST {
-            self.values[at] = value;
+impl From<TranslateError> for Told {
+    fn from(error: TranslateError) -> Told {
+        match error {
+            TranslateError::Address => Told::Address,
+            TranslateError::Tlb(fault) => Told::from(fault),
         }
-        self
+    }
+}
+
+// Each crate below has a refusal of its own, with a number; they share no trait.
+impl From<cop0::Refusal> for Told {
+    fn from(refusal: cop0::Refusal) -> Told {
+        Told::Refused(refusal.number())
+    }
+}
+
+impl From<addr::Refusal> for Told {
+    fn from(refusal: addr::Refusal) -> Told {
+        Told::Refused(refusal.number())
+    }
+}
+
+impl From<cache::Refusal> for Told {
+    fn from(refusal: cache::Refusal) -> Told {
+        Told::Refused(refusal.number())
+    }
+}
+
+// Nothing to say.
+pub(crate) fn done(_value: ()) -> Told {
+    Told::Done
+}
+
+// The bytes of a line of each cache.
+#[derive(Clone, Copy)]
+pub enum Line {
+    Data([u8; 16]),
+    Instructions([u8; 32]),
+}
+
+impl From<[u8; 16]> for Line {
+    fn from(bytes: [u8; 16]) -> Line {
+        Line::Data(bytes)
+    }
+}
+
+impl From<[u8; 32]> for Line {
+    fn from(bytes: [u8; 32]) -> Line {
+        Line::Instructions(bytes)
     }
 }

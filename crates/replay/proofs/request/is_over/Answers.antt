@@ -1,25 +1,16 @@
--- `request::is_over` is decided by the places that are left: none of those passed was over.
-use Rattle.std.proofs.Common.{sym, ◌∙◌}
-use borrow.Author.Rules.{rules}
-use Rattle.replay.proofs.Limits.{no_limit, no_value, over_here, fine_here}
+-- `request::is_over` asks the pairs of a letter and a number.
+use Rattle.std.proofs.Common.{◌∙◌, rules, tests}
+use Rattle.std.proofs.lemmas.Iterator.{YieldsList-from_slice, YieldsList-from_zip}
+use Rattle.std.proofs.lemmas.Iterator.Search.{any_from_yields_List}
+use Rattle.replay.proofs.Limits.{is_over, over_pairs}
 use Rattle.replay.proofs.request.is_over.Goals as goal
-
-pub returns-then-values-i : goal.returns-then-values-i
-returns-then-values-i c =
-    let l = c.loop-i in
-    sym (l.invariant ∙ no_value _ _ l.i (search rules))
-
-pub returns-then-limits-i : goal.returns-then-limits-i
-returns-then-limits-i c =
-    let l = c.loop-i in
-    sym (l.invariant ∙ over_here _ _ l.i (search rules) (search rules) c.if-limits-i.true)
-
-pub loop-i-preserved : goal.loop-i-preserved
-loop-i-preserved c =
-    let l = c.loop-i in
-    l.invariant ∙ fine_here _ _ l.i (search rules) (search rules) c.if-limits-i.false
 
 pub returns : goal.returns
 returns c =
-    let l = c.loop-i in
-    sym (l.invariant ∙ no_limit _ _ l.i (search rules))
+    let letters = c.args.letters.now in
+    let values = c.args.values.now in
+    any_from_yields_List
+    {s = c.zip.result} (is_over c.args.exc) c.any.new.self _ c.any.result c.any.ensures.ran
+    (YieldsList-from_zip {s = c.zip.result} (YieldsList-from_slice letters cc) (YieldsList-from_slice values cc))
+    (λ x b q k. search (rules, tests))
+    ∙ over_pairs c.args.exc letters values

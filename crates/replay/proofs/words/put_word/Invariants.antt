@@ -1,9 +1,0 @@
--- `words::put_word` stays within the line.
-use Rattle.std.proofs.Common.{◌≤◌}
-use Rattle.replay.proofs.words.put_word.Given as goal
-
-abbrev pub invariant-loop-i : goal.invariant-loop-i
-invariant-loop-i l = l.i ≤ 8
-
-abbrev pub decreases-loop-i : goal.decreases-loop-i
-decreases-loop-i l = l.i
