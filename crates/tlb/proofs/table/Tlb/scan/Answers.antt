@@ -1,41 +1,38 @@
 -- `Tlb::scan` finds the lowest match, and whether there is another.
-use mathlib.Core.Path.{◌≡◌, ◌∙◌, sym}
-use native.Mathlib.Omega.{arith}
-use lib.ListN.{length}
-use borrow.Author.Rules.{rules}
-use Rattle.tlb.proofs.Scanning.{turn_hit, turn_miss, second, ended}
+use Rattle.std.proofs.Common.{◌≡◌, ◌∙◌, sym, length, rules}
+use Rattle.tlb.proofs.Scanning.{turn_first, turn_none, found_second, ended_none, ended_one}
 use Rattle.tlb.proofs.table.Tlb.scan.Goals as goal
-use Rattle.tlb.proofs.table.Tlb.scan.Goals.{then-matches+else-found-lt32, else-matches}
+use Rattle.tlb.proofs.table.Tlb.scan.Goals.{then-matches+in-None, else-matches}
 
-pub returns-then-found-lt32 : goal.returns-then-found-lt32
-returns-then-found-lt32 c =
+pub returns-in-Some : goal.returns-in-Some
+returns-in-Some c =
     let a = c.args in
     let len : length a.self.entries ≡ 32 = search rules in
-    second a.self.entries a.vaddr a.asid len c.loop-i.found c.loop-i.i c.loop-i.invariant.2 _
-    c.loop-i-test.true c.if-found-lt32.true
+    found_second a.self.entries a.vaddr a.asid len c.loop-i.i _ c.loop-i-test.true c.in-Some.first
+    (rw c.in-Some.is at c.loop-i.invariant)
     (sym c.matches.ensures ∙ c.if-matches.true)
 
 pub loop-i-preserved : goal.loop-i-preserved
 loop-i-preserved c =
     let a = c.args in
-    let len : length a.self.entries ≡ 32 = search rules in (
-      omega arith,
-      elim c.if-matches.branch [
-        | then-matches+else-found-lt32 w ↦ omega arith
-        | else-matches w ↦ omega arith
-      ],
-      elim c.if-matches.branch [
-        | then-matches+else-found-lt32 w ↦ rw w.found-is (turn_hit a.self.entries a.vaddr a.asid len c.loop-i.found c.loop-i.i
-            c.loop-i.invariant.2 _ c.loop-i-test.true w.if-found-lt32.false
-            (sym c.matches.ensures ∙ w.if-matches.true))
-        | else-matches w ↦ rw w.found-is (turn_miss a.self.entries a.vaddr a.asid len c.loop-i.found c.loop-i.i
-            c.loop-i.invariant.2 _ c.loop-i-test.true
-            (sym c.matches.ensures ∙ w.if-matches.false))
-      ],
-    )
+    let len : length a.self.entries ≡ 32 = search rules in
+    elim c.if-matches.branch [
+      | then-matches+in-None w ↦ rw w.found-is
+          (turn_first a.self.entries a.vaddr a.asid len c.loop-i.i _ c.loop-i-test.true (rw w.in-None.is at c.loop-i.invariant)
+          (sym c.matches.ensures ∙ w.if-matches.true))
+      | else-matches w ↦ rw w.found-is
+          (turn_none a.self.entries a.vaddr a.asid len c.loop-i.i _ c.loop-i-test.true c.loop-i.found c.loop-i.invariant
+          (sym c.matches.ensures ∙ w.if-matches.false))
+    ]
 
-pub returns : goal.returns
-returns c =
+pub returns-in-None-found : goal.returns-in-None-found
+returns-in-None-found c =
     let a = c.args in
     let len : length a.self.entries ≡ 32 = search rules in
-    ended a.self.entries a.vaddr a.asid len c.loop-i.found c.loop-i.i c.loop-i.invariant.2 c.loop-i-test.false c.loop-i.invariant.1
+    ended_none a.self.entries a.vaddr a.asid len c.loop-i.i c.loop-i-test.false (rw c.in-None-found.is at c.loop-i.invariant)
+
+pub returns-in-Some-found : goal.returns-in-Some-found
+returns-in-Some-found c =
+    let a = c.args in
+    let len : length a.self.entries ≡ 32 = search rules in
+    ended_one a.self.entries a.vaddr a.asid len c.loop-i.i c.loop-i-test.false c.in-Some-found.first (rw c.in-Some-found.is at c.loop-i.invariant)
