@@ -1,4 +1,3 @@
-pub mod Matching
 pub mod Scanning
 pub mod Freshly
 pub mod Sizes

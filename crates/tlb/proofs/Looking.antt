@@ -38,6 +38,10 @@ many_hits i [] e = cc
 many_hits i (j ∷ []) e = cc
 many_hits i (j ∷ k ∷ ks) e = refl
 
+first_head : {i : ℕ} (j : ℕ) (js : List ℕ) → Some i ≡ first_of (hits_of (j ∷ js)) → j ≡ i
+first_head j [] e = cc
+first_head j (k ∷ ks) e = cc
+
 pub one_below : (es : List Entry) (v asid i : ℕ) → length es ≡ 32 → hits.One i ≡ hits_of (matching es v asid 0) → i < 32
 one_below es v asid i len e = omega (arith, below es v asid 0 i [] (one_hit i _ e))
 
@@ -104,14 +108,23 @@ module _ (t : Tlb) (v asid : ℕ) (store : Bool) where
 
 -- the lowest match, as the scan gave it
 module _ (t : Tlb) (len : length t.entries ≡ 32) (v asid : ℕ) (h : Hits) (scanned : h ≡ hits_of (matching t.entries v asid 0)) where
-  pub lowest_some : (i : ℕ) → Some i ≡ first_of h → (lowest t v asid ≡ i) × (i < 32)
+  pub lowest_is : (i : ℕ) → Some i ≡ first_of h → lowest t v asid ≡ i
   unfolding lowest
-  lowest_some i e = go (matching t.entries v asid 0) refl (e ∙ ap first_of scanned)
+  lowest_is i e = go (matching t.entries v asid 0) (e ∙ ap first_of scanned)
     where
-      go : (l : List ℕ) → matching t.entries v asid 0 ≡ l → Some i ≡ first_of (hits_of l) → (head_of l ≡ i) × (i < 32)
+      go : (l : List ℕ) → Some i ≡ first_of (hits_of l) → head_of l ≡ i
+      go [] e = cc
+      go (j ∷ []) e = cc
+      go (j ∷ k ∷ ks) e = cc
+
+  pub first_below : (i : ℕ) → Some i ≡ first_of h → i < 32
+  first_below i e = go (matching t.entries v asid 0) refl (e ∙ ap first_of scanned)
+    where
+      go : (l : List ℕ) → matching t.entries v asid 0 ≡ l → Some i ≡ first_of (hits_of l) → i < 32
       go [] q e = cc
-      go (j ∷ []) q e = let same : j ≡ i = cc in (same, omega (arith, below t.entries v asid 0 j [] q))
-      go (j ∷ k ∷ ks) q e = let same : j ≡ i = cc in (same, omega (arith, below t.entries v asid 0 j (k ∷ ks) q))
+      go (j ∷ js) q e =
+          let same : j ≡ i = first_head j js e in
+          omega (arith, below t.entries v asid 0 j js q)
 
   pub lowest_is_32 : None ≡ first_of h → lowest t v asid ≡ 32
   unfolding lowest

@@ -14,7 +14,7 @@ pub struct ItlbProbed {
 impl Tlb {
     // Would a lookup find an entry? It neither translates nor shuts down: only a fetch that the table can serve is charged
     // for filling the micro-TLB (4.6.2).
-    #[tactic(auto, unfolding(crate::specs::Micro::has_match_of))]
+    #[tactic(auto, using(crate::proofs::Looking::has_some), unfolding(crate::specs::Micro::has_match_of))]
     pub fn jtlb_has_match(self, vaddr: u64, asid: u8) -> bool
         ensures { result ≡ has_match_of self vaddr asid }
     {
@@ -42,6 +42,7 @@ impl Tlb {
     }
 
     // The lowest matching entry goes into the next slot, and the other slot is next.
+    #[tactic(auto, using(crate::proofs::Looking::lowest_is, crate::proofs::Looking::first_below, crate::proofs::Looking::lowest_is_32), unfolding(crate::specs::Micro::filled_of))]
     pub fn itlb_fill(mut self, vaddr: u64, asid: u8) -> Tlb
         ensures { result ≡ filled_of self vaddr asid }
     {

@@ -30,6 +30,7 @@ impl Tlb {
     }
 
     // `TLBP`: Index takes the number of the lowest entry that matches EntryHi, or its bit 31 (5.4.1).
+    #[tactic(auto, using(crate::proofs::Looking::lowest_is, crate::proofs::Looking::first_below, crate::proofs::Looking::lowest_is_32), unfolding(crate::specs::Moves::probe_of))]
     pub fn probe(self, cop0: Cop0) -> Cop0
         ensures { result ≡ probe_of self cop0 }
     {

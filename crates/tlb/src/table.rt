@@ -69,8 +69,7 @@ impl Tlb {
     pub fn entry(self, i: usize) -> Entry
         ensures { result ≡ entry_at self (i % 32) }
     {
-        let at = i % 32;
-        self.entries[at]
+        self.entries[i % 32]
     }
 
     // The size of one page, in bytes (table 5-7).
@@ -89,6 +88,7 @@ impl Tlb {
     }
 
     // Where an address leads. Two entries that match shut the TLB down for good, and a TLB that is shut down finds nothing.
+    #[tactic(auto, using(crate::proofs::Looking::one_below))]
     pub fn lookup(mut self, vaddr: u64, asid: u8, store: bool) -> Looked
         ensures { (told_lookup result.answer ≡ told_lookup (lookup_answer self vaddr asid store))
             × (result.tlb ≡ lookup_table self vaddr asid) }
