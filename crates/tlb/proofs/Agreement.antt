@@ -1,7 +1,7 @@
 -- The entry that a probe finds is the lowest that matches, and `jtlb_has_match` agrees with the lookup.
 use Rattle.std.proofs.Common.{◌≡◌, refl, sym, ℕ, zero, suc, ◌-◌, ◌<◌, ◌≤◌, Bool, true, false, cond, List, [], ◌∷◌, length, get_or, ltb, ltb-false, ltb-true, Err, arith}
 use native.Mathlib.Nat.{le_of_suc-le-suc, not-suc-le-zero, sub-zero}
-use Rattle.std.proofs.lemmas.Bool.{false≢true}
+use Rattle.std.proofs.lemmas.Bool.{false≢true, true≢false}
 use Rattle.tlb.specs.declared.entries.Entry.{Entry}
 use Rattle.tlb.specs.declared.entries.TlbFault.TheVariants.{Refill}
 use Rattle.tlb.specs.declared.table.Tlb.{Tlb}
@@ -9,7 +9,13 @@ use Rattle.tlb.specs.Entries.{matches_of, entry_answer}
 use Rattle.tlb.specs.Table.{with_vpn2, entry_at, matching, head_of, several}
 use Rattle.tlb.specs.Lookup.{shut_down, lookup_answer, lookup_table}
 use Rattle.tlb.specs.Micro.{lowest, has_match_of}
-use Rattle.tlb.proofs.Looking.{below, is_shut, clash, found, nothing}
+use Rattle.tlb.proofs.Looking.{below, is_shut, none_answers, one_answers, several_shuts}
+
+-- a list of one is its head
+the_only : (l : List ℕ) → several l ≡ false → head_of l < 32 → l ≡ head_of l ∷ []
+the_only [] e h = absurd (omega arith)
+the_only (i ∷ []) e h = refl
+the_only (i ∷ j ∷ is) e h = absurd (true≢false e)
 
 module _ (v asid : ℕ) where
   abbrev at : List Entry → ℕ → Bool
@@ -92,7 +98,7 @@ module _ (t : Tlb) (v asid : ℕ) where
     where
       empty : t.shutdown ≡ false → (l : List ℕ) → matching t.entries v asid 0 ≡ l → 32 ≤ head_of l
           → (lookup_answer t v asid store ≡ Err Refill) × (lookup_table t v asid ≡ t)
-      empty s [] q h = let r = nothing t v asid store s len (rw q (omega arith)) in (sym r.0, sym r.1)
+      empty s [] q h = let r = none_answers t v asid store s q in (sym r.0, sym r.1)
       empty s (i ∷ []) q h = absurd (omega (arith, below t.entries v asid 0 i [] q))
       empty s (i ∷ j ∷ is) q h = absurd (omega (arith, below t.entries v asid 0 i (j ∷ is) q))
 
@@ -116,12 +122,12 @@ module _ (t : Tlb) (v asid : ℕ) where
   unfolding lowest
   match_answers e m store =
       let o = is_open e in
-      let r = found t v asid store o.0 m o.1 in
+      let r = one_answers t v asid store o.0 _ (the_only _ m o.1) in
       (sym r.0, sym r.1)
 
   -- or, where more than one matches, shuts the table down
   pub second_match_shuts : has_match_of t v asid ≡ true → several (matching t.entries v asid 0) ≡ true → (store : Bool)
       → (lookup_answer t v asid store ≡ Err Refill) × (lookup_table t v asid ≡ shut_down t)
   second_match_shuts e m store =
-      let r = clash t v asid store (is_open e).0 m in
+      let r = several_shuts t v asid store (is_open e).0 m in
       (sym r.0, sym r.1)

@@ -1,6 +1,6 @@
 -- A lookup, by what the scan found.
-use Rattle.std.proofs.Common.{◌≡◌, refl, ap, sym, ◌∙◌, ℕ, suc, ◌+◌, ◌<◌, ◌≤◌, Bool, true, false, cond, List, [], ◌∷◌, length, Option, Some, None, is_some, Err, ltb, lt-ltb, arith}
-use Rattle.std.proofs.lemmas.Bool.{false≢true, true≢false}
+use Rattle.std.proofs.Common.{◌≡◌, refl, ap, sym, ◌∙◌, ℕ, suc, ◌+◌, ◌<◌, Bool, true, false, cond, List, [], ◌∷◌, length, Option, Some, None, is_some, Err, ltb, lt-ltb, arith}
+use Rattle.std.proofs.lemmas.Bool.{false≢true}
 use Rattle.tlb.specs.declared.entries.Entry.{Entry}
 use Rattle.tlb.specs.declared.entries.TlbFault.TheVariants.{Refill}
 use Rattle.tlb.specs.declared.table.Tlb.{Tlb}
@@ -23,17 +23,17 @@ below (x ∷ es) v asid i j js e = go (matches_of x v asid) e (below es v asid (
     go false p rest = omega (arith, rest p)
 
 -- the matches, by what the scan gave
-no_hit : (l : List ℕ) → hits.None ≡ hits_of l → l ≡ []
+pub no_hit : (l : List ℕ) → hits.None ≡ hits_of l → l ≡ []
 no_hit [] e = refl
 no_hit (i ∷ []) e = cc
 no_hit (i ∷ j ∷ is) e = cc
 
-one_hit : (i : ℕ) (l : List ℕ) → hits.One i ≡ hits_of l → l ≡ i ∷ []
+pub one_hit : (i : ℕ) (l : List ℕ) → hits.One i ≡ hits_of l → l ≡ i ∷ []
 one_hit i [] e = cc
 one_hit i (j ∷ []) e = cc
 one_hit i (j ∷ k ∷ ks) e = cc
 
-many_hits : (i : ℕ) (l : List ℕ) → hits.Several i ≡ hits_of l → several l ≡ true
+pub many_hits : (i : ℕ) (l : List ℕ) → hits.Several i ≡ hits_of l → several l ≡ true
 many_hits i [] e = cc
 many_hits i (j ∷ []) e = cc
 many_hits i (j ∷ k ∷ ks) e = refl
@@ -45,66 +45,33 @@ first_head j (k ∷ ks) e = cc
 pub one_below : (es : List Entry) (v asid i : ℕ) → length es ≡ 32 → hits.One i ≡ hits_of (matching es v asid 0) → i < 32
 one_below es v asid i len e = omega (arith, below es v asid 0 i [] (one_hit i _ e))
 
-module _ (t : Tlb) (v : ℕ) (store : Bool) where
-  more : (l : List ℕ) → several l ≡ true → (answer_by t l v store ≡ Err Refill) × (table_by t l ≡ shut_down t)
-  more [] e = absurd (false≢true e)
-  more (i ∷ []) e = absurd (false≢true e)
-  more (i ∷ j ∷ is) e = (refl, refl)
-
-  one : (l : List ℕ) → several l ≡ false → head_of l < 32
-      → (answer_by t l v store ≡ entry_answer (head_of l) (entry_at t (head_of l)) v store) × (table_by t l ≡ t)
-  one [] e h = absurd (omega arith)
-  one (i ∷ []) e h = (refl, refl)
-  one (i ∷ j ∷ is) e h = absurd (true≢false e)
-
-  none : (l : List ℕ) → ((j : ℕ) (js : List ℕ) → l ≡ j ∷ js → j < 32) → 32 ≤ head_of l
-      → (answer_by t l v store ≡ Err Refill) × (table_by t l ≡ t)
-  none [] b h = (refl, refl)
-  none (i ∷ is) b h = absurd (omega (arith, b i is refl))
-
 -- the lookup of a table, by its list of matches
 module _ (t : Tlb) (v asid : ℕ) (store : Bool) where
   pub is_shut : t.shutdown ≡ true → (Err Refill ≡ lookup_answer t v asid store) × (t ≡ lookup_table t v asid)
   unfolding lookup_answer lookup_table
   is_shut e = simp e (refl, refl)
 
-  module _ (open_table : t.shutdown ≡ false) where
-    abbrev l : List ℕ
-    l = matching t.entries v asid 0
-
-    pub clash : several l ≡ true → (Err Refill ≡ lookup_answer t v asid store) × (shut_down t ≡ lookup_table t v asid)
+  module _ (is_open : t.shutdown ≡ false) where
+    pub none_answers : matching t.entries v asid 0 ≡ [] → (Err Refill ≡ lookup_answer t v asid store) × (t ≡ lookup_table t v asid)
     unfolding lookup_answer lookup_table
-    clash e =
-        let m = more t v store l e in
-        simp open_table (sym m.0, sym m.1)
+    none_answers e = rw (e, is_open) (refl, refl)
 
-    pub found : several l ≡ false → head_of l < 32
-        → (entry_answer (head_of l) (entry_at t (head_of l)) v store ≡ lookup_answer t v asid store) × (t ≡ lookup_table t v asid)
-    unfolding lookup_answer lookup_table
-    found e p =
-        let m = one t v store l e p in
-        simp open_table (sym m.0, sym m.1)
-
-    pub nothing : length t.entries ≡ 32 → 32 ≤ head_of l
-        → (Err Refill ≡ lookup_answer t v asid store) × (t ≡ lookup_table t v asid)
-    unfolding lookup_answer lookup_table
-    nothing len p =
-        let m = none t v store l (λ j js q. omega (arith, below t.entries v asid 0 j js q)) p in
-        simp open_table (sym m.0, sym m.1)
-
-    -- and by what the scan gave
-    pub of_none : hits.None ≡ hits_of l → (Err Refill ≡ lookup_answer t v asid store) × (t ≡ lookup_table t v asid)
-    unfolding lookup_answer lookup_table
-    of_none e = rw (no_hit l e, open_table) (refl, refl)
-
-    pub of_one : (i : ℕ) → hits.One i ≡ hits_of l
+    pub one_answers : (i : ℕ) → matching t.entries v asid 0 ≡ i ∷ []
         → (entry_answer i (entry_at t i) v store ≡ lookup_answer t v asid store) × (t ≡ lookup_table t v asid)
     unfolding lookup_answer lookup_table
-    of_one i e = rw (one_hit i l e, open_table) (refl, refl)
+    one_answers i e = rw (e, is_open) (refl, refl)
 
-    pub of_several : (i : ℕ) → hits.Several i ≡ hits_of l
+    pub several_shuts : several (matching t.entries v asid 0) ≡ true
         → (Err Refill ≡ lookup_answer t v asid store) × (shut_down t ≡ lookup_table t v asid)
-    of_several i e = clash (many_hits i l e)
+    unfolding lookup_answer lookup_table
+    several_shuts e =
+        let m = go (matching t.entries v asid 0) e in
+        simp is_open (m.0, m.1)
+      where
+        go : (l : List ℕ) → several l ≡ true → (Err Refill ≡ answer_by t l v store) × (shut_down t ≡ table_by t l)
+        go [] e = absurd (false≢true e)
+        go (i ∷ []) e = absurd (false≢true e)
+        go (i ∷ j ∷ is) e = (refl, refl)
 
 -- the lowest match, as the scan gave it
 module _ (t : Tlb) (len : length t.entries ≡ 32) (v asid : ℕ) (h : Hits) (scanned : h ≡ hits_of (matching t.entries v asid 0)) where

@@ -1,7 +1,7 @@
 -- The scan's list of matches, one entry more at a time.
-use Rattle.std.proofs.Common.{◌≡◌, refl, sym, ap, ◌∙◌, ℕ, zero, suc, ◌+◌, ◌<◌, ◌≤◌, true, false, cond, List, [], ◌∷◌, length, get_or, drop, Option, Some, None, add-one, drop-cons, lt-ltb, le-ltb, ltb, arith}
+use Rattle.std.proofs.Common.{◌≡◌, refl, sym, ap, ◌∙◌, ℕ, ◌+◌, ◌<◌, ◌≤◌, true, false, cond, List, [], ◌∷◌, length, get_or, drop, Option, Some, None, add-one, drop-cons, lt-ltb, le-ltb, ltb, arith}
 use native.Mathlib.Decide.{dec_lt}
-use native.Mathlib.Nat.{le_of_suc-le-suc, not-suc-le-zero}
+use Rattle.std.proofs.lemmas.List.{drop_all}
 use Rattle.tlb.specs.declared.entries.Entry.{Entry}
 use Rattle.tlb.specs.declared.table.Hits.TheVariants as hits
 use Rattle.tlb.specs.Entries.{matches_of}
@@ -16,12 +16,6 @@ abbrev pub kept : Option ℕ → List ℕ → List ℕ
 kept None l = l
 kept (Some f) l = f ∷ l
 
-drop_all : (es : List Entry) (i : ℕ) → length es ≤ i → drop i es ≡ []
-drop_all [] zero h = refl
-drop_all [] (suc i) h = refl
-drop_all (e ∷ es) zero h = absurd (not-suc-le-zero h)
-drop_all (e ∷ es) (suc i) h = drop_all es i (le_of_suc-le-suc h)
-
 module _ (es : List Entry) (v asid : ℕ) where
   -- the matches from entry i up
   abbrev pub from : ℕ → List ℕ
@@ -29,7 +23,7 @@ module _ (es : List Entry) (v asid : ℕ) where
 
   past : (i : ℕ) → length es ≤ i → from i ≡ []
   unfolding matching
-  past i h = rw (drop_all es i h)
+  past i h = rw (drop_all i es h)
 
   module _ (i : ℕ) (d : Entry) (h : i < length es) where
     hit : matches_of (get_or es i d) v asid ≡ true → from i ≡ i ∷ from (i + 1)
@@ -47,11 +41,6 @@ module _ (es : List Entry) (v asid : ℕ) where
 
       pub turn_miss : matches_of (get_or es i d) v asid ≡ false → l ≡ held f (from (i + 1))
       turn_miss m = all ∙ ap (held f) (miss i d (omega arith) m)
-
-      pub second_parts : f < 32 → matches_of (get_or es i d) v asid ≡ true → (f ≡ head_of l) × (true ≡ several l)
-      second_parts n m =
-          let two : l ≡ f ∷ i ∷ from (i + 1) = all ∙ simp (lt-ltb f 32 n) (ap (λ (r : List ℕ). f ∷ r) (hit i d (omega arith) m)) in
-          rw two (refl, refl)
 
     pub ended_parts : 32 ≤ i → f ≤ 32 → (f ≡ head_of l) × (false ≡ several l)
     ended_parts h n = rw (all ∙ ap (held f) (past i (omega arith))) (go (dec_lt f 32))
