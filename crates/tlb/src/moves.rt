@@ -53,7 +53,7 @@ fn canonical_page_mask(mask: u64) -> u32
     upper | (upper >> 1)
 }
 
-// A half of an entry, as EntryLo0 or EntryLo1 has it (figure 5-10).
+// A half of an entry, as EntryLo0 or EntryLo1 has it (figure 5-10). No `From<u64>`: a bare number does not say that it is one.
 pub fn page_from(lo: u64) -> PageEntry
     ensures { result ≡ page_of lo }
 {
@@ -65,7 +65,7 @@ pub fn page_from(lo: u64) -> PageEntry
     }
 }
 
-// The entry that the registers have: what a write puts into its place.
+// The entry that the registers have: what a write puts into its place. No `From<Cop0>`: an entry is four of its registers.
 #[tactic(auto, unfolding(crate::specs::Moves::entry_of))]
 pub fn entry_from(cop0: Cop0) -> Entry
     ensures { result ≡ entry_of cop0 }

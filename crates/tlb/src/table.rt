@@ -10,9 +10,9 @@ use crate::entries::{Entry, PageEntry, TlbFault, Translated};
 pub struct Tlb {
     pub entries: [Entry; 32],
     // The micro-TLB: two entry numbers, 32 for an empty slot. Numbers and no copies, so that it cannot serve an entry that
-    // was written since; and no Option, since hosts save the record as words.
+    // was written since; no Options, as hosts save the record as words (`specs/Micro.antt`).
     pub itlb: [u8; 2],
-    // The slot that the next fill takes: the one not used last (1.5.1).
+    // The slot that the next fill takes, a number as in those words: the one not used last (1.5.1).
     pub itlb_lru: u8,
     // Two entries matched: the TLB is unusable until reset (5.1).
     pub shutdown: bool,
