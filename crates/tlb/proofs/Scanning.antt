@@ -70,3 +70,6 @@ module _ (es : List Entry) (v asid : ℕ) where
 
       pub ended_one : (f : ℕ) → l ≡ kept (Some f) (from i) → hits.One f ≡ hits_of l
       ended_one f all = sym (ap hits_of (all ∙ ap (kept (Some f)) (past i (omega arith))))
+
+-- all that a scan that holds an Option needs
+pub ruleset one_scan = (turn_first, turn_none, found_second, ended_none, ended_one)

@@ -119,7 +119,7 @@ impl Tlb {
     }
 
     // A scan that stops at the second match.
-    #[tactic(auto, using(crate::proofs::Scanning::turn_first, crate::proofs::Scanning::turn_none, crate::proofs::Scanning::found_second, crate::proofs::Scanning::ended_none, crate::proofs::Scanning::ended_one))]
+    #[tactic(auto, using(crate::proofs::Scanning::one_scan))]
     pub(crate) fn scan(self, vaddr: u64, asid: u8) -> Hits
         ensures { result ≡ hits_of (matching self.entries vaddr asid 0) }
     {
