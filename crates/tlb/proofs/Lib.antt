@@ -1,3 +1,4 @@
+pub mod Matching
 pub mod Scanning
 pub mod Freshly
 pub mod Sizes
