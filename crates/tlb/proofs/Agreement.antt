@@ -1,23 +1,21 @@
 -- The entry that a probe finds is the lowest that matches, and `jtlb_has_match` agrees with the lookup.
-use Rattle.std.proofs.Common.{Err}
-use mathlib.Core.Path.{◌≡◌, refl, ap, sym}
-use mathlib.Core.Bool.{Bool, true, false, cond, false≢true}
-use mathlib.Core.List.{List, [], ◌∷◌}
-use Prim.Native.Nat.{ℕ, zero, suc, ◌-◌, ◌<◌, ◌≤◌}
+use Rattle.std.proofs.Common.{◌≡◌, refl, sym, ℕ, zero, suc, ◌-◌, ◌<◌, ◌≤◌, Bool, true, false, cond, List, [], ◌∷◌, length, get_or, ltb, ltb-false, ltb-true, Err, arith}
 use native.Mathlib.Nat.{le_of_suc-le-suc, not-suc-le-zero, sub-zero}
-use native.Mathlib.Omega.{arith}
-use lib.Dec.{ltb}
-use lib.ListN.{length, get_or}
-use borrow.Author.Tests.{ltb-false, ltb-true}
+use Rattle.std.proofs.lemmas.Bool.{false≢true, true≢false}
 use Rattle.tlb.specs.declared.entries.Entry.{Entry}
 use Rattle.tlb.specs.declared.entries.TlbFault.TheVariants.{Refill}
 use Rattle.tlb.specs.declared.table.Tlb.{Tlb}
-use Rattle.tlb.specs.declared.table.Hits.{Hits}
 use Rattle.tlb.specs.Entries.{matches_of, entry_answer}
-use Rattle.tlb.specs.Table.{with_vpn2, entry_at, matching, hits_of}
+use Rattle.tlb.specs.Table.{with_vpn2, entry_at, matching, head_of, several}
 use Rattle.tlb.specs.Lookup.{shut_down, lookup_answer, lookup_table}
 use Rattle.tlb.specs.Micro.{lowest, has_match_of}
-use Rattle.tlb.proofs.Looking.{below, is_shut, clash, found, nothing}
+use Rattle.tlb.proofs.Looking.{below, is_shut, none_answers, one_answers, several_shuts}
+
+-- a list of one is its head
+the_only : (l : List ℕ) → several l ≡ false → head_of l < 32 → l ≡ head_of l ∷ []
+the_only [] e h = absurd (omega arith)
+the_only (i ∷ []) e h = refl
+the_only (i ∷ j ∷ is) e h = absurd (true≢false e)
 
 module _ (v asid : ℕ) where
   abbrev at : List Entry → ℕ → Bool
@@ -65,9 +63,9 @@ module _ (v asid : ℕ) where
 
 -- what a probe or a fill finds below 32 matches, and no lower entry does
 module _ (t : Tlb) (v asid : ℕ) where
-  by_list : (l : List ℕ) → matching t.entries v asid 0 ≡ l → (hits_of l).first < 32
-      → (matches_of (entry_at t (hits_of l).first) v asid ≡ true)
-      × ((n : ℕ) → n < (hits_of l).first → matches_of (entry_at t n) v asid ≡ false)
+  by_list : (l : List ℕ) → matching t.entries v asid 0 ≡ l → head_of l < 32
+      → (matches_of (entry_at t (head_of l)) v asid ≡ true)
+      × ((n : ℕ) → n < head_of l → matches_of (entry_at t n) v asid ≡ false)
   by_list [] e h = absurd (omega arith)
   by_list (i ∷ []) e h = let f = first_is v asid t.entries 0 i [] e in (rw (sub-zero i) at f.hit, λ n p. f.before n (omega arith))
   by_list (i ∷ j ∷ is) e h =
@@ -79,7 +77,7 @@ module _ (t : Tlb) (v asid : ℕ) where
   unfolding lowest
   lowest_matches h = by_list (matching t.entries v asid 0) refl h
 
-  nothing_by : length t.entries ≡ 32 → (l : List ℕ) → matching t.entries v asid 0 ≡ l → 32 ≤ (hits_of l).first
+  nothing_by : length t.entries ≡ 32 → (l : List ℕ) → matching t.entries v asid 0 ≡ l → 32 ≤ head_of l
       → (n : ℕ) → n < 32 → matches_of (entry_at t n) v asid ≡ false
   nothing_by len [] e h n p = none_is v asid t.entries 0 e n (omega arith)
   nothing_by len (i ∷ []) e h n p = absurd (omega (arith, below t.entries v asid 0 i [] e))
@@ -98,13 +96,13 @@ module _ (t : Tlb) (v asid : ℕ) where
   unfolding has_match_of lowest
   no_match_refill len e store = go t.shutdown refl e
     where
-      empty : t.shutdown ≡ false → (l : List ℕ) → matching t.entries v asid 0 ≡ l → 32 ≤ (hits_of l).first
+      empty : t.shutdown ≡ false → (l : List ℕ) → matching t.entries v asid 0 ≡ l → 32 ≤ head_of l
           → (lookup_answer t v asid store ≡ Err Refill) × (lookup_table t v asid ≡ t)
-      empty s [] q h = let r = nothing t v asid store s (hits_of []) (sym (ap hits_of q)) len refl h in (sym r.0, sym r.1)
+      empty s [] q h = let r = none_answers t v asid store s q in (sym r.0, sym r.1)
       empty s (i ∷ []) q h = absurd (omega (arith, below t.entries v asid 0 i [] q))
       empty s (i ∷ j ∷ is) q h = absurd (omega (arith, below t.entries v asid 0 i (j ∷ is) q))
 
-      go : (b : Bool) → t.shutdown ≡ b → cond b false (ltb (hits_of (matching t.entries v asid 0)).first 32) ≡ false
+      go : (b : Bool) → t.shutdown ≡ b → cond b false (ltb (head_of (matching t.entries v asid 0)) 32) ≡ false
           → (lookup_answer t v asid store ≡ Err Refill) × (lookup_table t v asid ≡ t)
       go true s p = let r = is_shut t v asid store s in (sym r.0, sym r.1)
       go false s p = empty s (matching t.entries v asid 0) refl (ltb-false _ _ p)
@@ -118,21 +116,18 @@ module _ (t : Tlb) (v asid : ℕ) where
       go true s p = absurd (false≢true p)
       go false s p = (s, ltb-true _ _ p)
 
-  abbrev hits : Hits
-  hits = hits_of (matching t.entries v asid 0)
-
   -- where it says yes, the lookup gives the answer of the only entry that matches
-  pub match_answers : has_match_of t v asid ≡ true → hits.more ≡ false → (store : Bool)
+  pub match_answers : has_match_of t v asid ≡ true → several (matching t.entries v asid 0) ≡ false → (store : Bool)
       → (lookup_answer t v asid store ≡ entry_answer (lowest t v asid) (entry_at t (lowest t v asid)) v store) × (lookup_table t v asid ≡ t)
   unfolding lowest
   match_answers e m store =
       let o = is_open e in
-      let r = found t v asid store o.0 hits refl m o.1 in
+      let r = one_answers t v asid store o.0 _ (the_only _ m o.1) in
       (sym r.0, sym r.1)
 
   -- or, where more than one matches, shuts the table down
-  pub second_match_shuts : has_match_of t v asid ≡ true → hits.more ≡ true → (store : Bool)
+  pub second_match_shuts : has_match_of t v asid ≡ true → several (matching t.entries v asid 0) ≡ true → (store : Bool)
       → (lookup_answer t v asid store ≡ Err Refill) × (lookup_table t v asid ≡ shut_down t)
   second_match_shuts e m store =
-      let r = clash t v asid store (is_open e).0 hits refl m in
+      let r = several_shuts t v asid store (is_open e).0 m in
       (sym r.0, sym r.1)

@@ -1,17 +1,13 @@
 -- A lookup, by what the scan found.
-use Rattle.std.proofs.Common.{Err}
-use mathlib.Core.Path.{◌≡◌, refl, ap, sym}
-use mathlib.Core.Bool.{Bool, true, false, cond, false≢true, true≢false}
-use mathlib.Core.List.{List, [], ◌∷◌}
-use Prim.Native.Nat.{ℕ, suc, ◌+◌, ◌<◌, ◌≤◌}
-use native.Mathlib.Omega.{arith}
-use lib.ListN.{length}
+use Rattle.std.proofs.Common.{◌≡◌, refl, ap, sym, ◌∙◌, ℕ, suc, ◌+◌, ◌<◌, Bool, true, false, cond, List, [], ◌∷◌, length, Option, Some, None, is_some, Err, ltb, lt-ltb, arith}
+use Rattle.std.proofs.lemmas.Bool.{false≢true}
 use Rattle.tlb.specs.declared.entries.Entry.{Entry}
 use Rattle.tlb.specs.declared.entries.TlbFault.TheVariants.{Refill}
 use Rattle.tlb.specs.declared.table.Tlb.{Tlb}
 use Rattle.tlb.specs.declared.table.Hits.{Hits}
+use Rattle.tlb.specs.declared.table.Hits.TheVariants as hits
 use Rattle.tlb.specs.Entries.{matches_of, entry_answer}
-use Rattle.tlb.specs.Table.{entry_at, matching, hits_of}
+use Rattle.tlb.specs.Table.{entry_at, matching, head_of, several, hits_of, first_of}
 use Rattle.tlb.specs.Micro.{lowest}
 use Rattle.tlb.specs.Lookup.{answer_by, shut_down, table_by, lookup_answer, lookup_table}
 
@@ -26,55 +22,91 @@ below (x ∷ es) v asid i j js e = go (matches_of x v asid) e (below es v asid (
     go true p rest = let q : i ≡ j = cc in omega arith
     go false p rest = omega (arith, rest p)
 
-module _ (t : Tlb) (v : ℕ) (store : Bool) where
-  more : (l : List ℕ) → (hits_of l).more ≡ true → (answer_by t l v store ≡ Err Refill) × (table_by t l ≡ shut_down t)
-  more [] e = absurd (false≢true e)
-  more (i ∷ []) e = absurd (false≢true e)
-  more (i ∷ j ∷ is) e = (refl, refl)
+-- the matches, by what the scan gave
+pub no_hit : (l : List ℕ) → hits.None ≡ hits_of l → l ≡ []
+no_hit [] e = refl
+no_hit (i ∷ []) e = cc
+no_hit (i ∷ j ∷ is) e = cc
 
-  one : (l : List ℕ) → (hits_of l).more ≡ false → (hits_of l).first < 32
-      → (answer_by t l v store ≡ entry_answer (hits_of l).first (entry_at t (hits_of l).first) v store) × (table_by t l ≡ t)
-  one [] e h = absurd (omega arith)
-  one (i ∷ []) e h = (refl, refl)
-  one (i ∷ j ∷ is) e h = absurd (true≢false e)
+pub one_hit : (i : ℕ) (l : List ℕ) → hits.One i ≡ hits_of l → l ≡ i ∷ []
+one_hit i [] e = cc
+one_hit i (j ∷ []) e = cc
+one_hit i (j ∷ k ∷ ks) e = cc
 
-  none : (l : List ℕ) → ((j : ℕ) (js : List ℕ) → l ≡ j ∷ js → j < 32) → (hits_of l).more ≡ false → 32 ≤ (hits_of l).first
-      → (answer_by t l v store ≡ Err Refill) × (table_by t l ≡ t)
-  none [] b e h = (refl, refl)
-  none (i ∷ []) b e h = absurd (omega (arith, b i [] refl))
-  none (i ∷ j ∷ is) b e h = absurd (true≢false e)
+pub many_hits : (i : ℕ) (l : List ℕ) → hits.Several i ≡ hits_of l → several l ≡ true
+many_hits i [] e = cc
+many_hits i (j ∷ []) e = cc
+many_hits i (j ∷ k ∷ ks) e = refl
 
--- the lookup of a table of 32 entries, whose scan gave h
+first_head : {i : ℕ} (j : ℕ) (js : List ℕ) → Some i ≡ first_of (hits_of (j ∷ js)) → j ≡ i
+first_head j [] e = cc
+first_head j (k ∷ ks) e = cc
+
+pub one_below : (es : List Entry) (v asid i : ℕ) → length es ≡ 32 → hits.One i ≡ hits_of (matching es v asid 0) → i < 32
+one_below es v asid i len e = omega (arith, below es v asid 0 i [] (one_hit i _ e))
+
+-- the lookup of a table, by its list of matches
 module _ (t : Tlb) (v asid : ℕ) (store : Bool) where
   pub is_shut : t.shutdown ≡ true → (Err Refill ≡ lookup_answer t v asid store) × (t ≡ lookup_table t v asid)
   unfolding lookup_answer lookup_table
   is_shut e = simp e (refl, refl)
 
-  module _ (open_table : t.shutdown ≡ false) (h : Hits) (scanned : h ≡ hits_of (matching t.entries v asid 0)) where
-    abbrev l : List ℕ
-    l = matching t.entries v asid 0
-
-    pub clash : h.more ≡ true → (Err Refill ≡ lookup_answer t v asid store) × (shut_down t ≡ lookup_table t v asid)
+  module _ (is_open : t.shutdown ≡ false) where
+    pub none_answers : matching t.entries v asid 0 ≡ [] → (Err Refill ≡ lookup_answer t v asid store) × (t ≡ lookup_table t v asid)
     unfolding lookup_answer lookup_table
-    clash e =
-        let m = more t v store l (rw scanned at e) in
-        simp open_table (sym m.0, sym m.1)
+    none_answers e = rw (e, is_open) (refl, refl)
 
-    pub found : h.more ≡ false → h.first < 32
-        → (entry_answer h.first (entry_at t h.first) v store ≡ lookup_answer t v asid store) × (t ≡ lookup_table t v asid)
+    pub one_answers : (i : ℕ) → matching t.entries v asid 0 ≡ i ∷ []
+        → (entry_answer i (entry_at t i) v store ≡ lookup_answer t v asid store) × (t ≡ lookup_table t v asid)
     unfolding lookup_answer lookup_table
-    found e p =
-        let m = one t v store l (rw scanned at e) (rw scanned at p) in
-        rw scanned (simp open_table (sym m.0, sym m.1))
+    one_answers i e = rw (e, is_open) (refl, refl)
 
-    pub nothing : length t.entries ≡ 32 → h.more ≡ false → 32 ≤ h.first
-        → (Err Refill ≡ lookup_answer t v asid store) × (t ≡ lookup_table t v asid)
+    pub several_shuts : several (matching t.entries v asid 0) ≡ true
+        → (Err Refill ≡ lookup_answer t v asid store) × (shut_down t ≡ lookup_table t v asid)
     unfolding lookup_answer lookup_table
-    nothing len e p =
-        let m = none t v store l (λ j js q. omega (arith, below t.entries v asid 0 j js q)) (rw scanned at e) (rw scanned at p) in
-        simp open_table (sym m.0, sym m.1)
+    several_shuts e =
+        let m = go (matching t.entries v asid 0) e in
+        simp is_open (m.0, m.1)
+      where
+        go : (l : List ℕ) → several l ≡ true → (Err Refill ≡ answer_by t l v store) × (shut_down t ≡ table_by t l)
+        go [] e = absurd (false≢true e)
+        go (i ∷ []) e = absurd (false≢true e)
+        go (i ∷ j ∷ is) e = (refl, refl)
 
 -- the lowest match, as the scan gave it
-pub lowest_is : (t : Tlb) (v asid : ℕ) (h : Hits) → h ≡ hits_of (matching t.entries v asid 0) → lowest t v asid ≡ h.first
-unfolding lowest
-lowest_is t v asid h e = ap (λ (x : Hits). x.first) (sym e)
+module _ (t : Tlb) (len : length t.entries ≡ 32) (v asid : ℕ) (h : Hits) (scanned : h ≡ hits_of (matching t.entries v asid 0)) where
+  pub lowest_is : (i : ℕ) → Some i ≡ first_of h → lowest t v asid ≡ i
+  unfolding lowest
+  lowest_is i e = go (matching t.entries v asid 0) (e ∙ ap first_of scanned)
+    where
+      go : (l : List ℕ) → Some i ≡ first_of (hits_of l) → head_of l ≡ i
+      go [] e = cc
+      go (j ∷ []) e = cc
+      go (j ∷ k ∷ ks) e = cc
+
+  pub first_below : (i : ℕ) → Some i ≡ first_of h → i < 32
+  first_below i e = go (matching t.entries v asid 0) refl (e ∙ ap first_of scanned)
+    where
+      go : (l : List ℕ) → matching t.entries v asid 0 ≡ l → Some i ≡ first_of (hits_of l) → i < 32
+      go [] q e = cc
+      go (j ∷ js) q e =
+          let same : j ≡ i = first_head j js e in
+          omega (arith, below t.entries v asid 0 j js q)
+
+  pub lowest_is_32 : None ≡ first_of h → lowest t v asid ≡ 32
+  unfolding lowest
+  lowest_is_32 e = go (matching t.entries v asid 0) (e ∙ ap first_of scanned)
+    where
+      go : (l : List ℕ) → ◌≡◌ {A = Option ℕ} None (first_of (hits_of l)) → head_of l ≡ 32
+      go [] e = refl
+      go (j ∷ []) e = cc
+      go (j ∷ k ∷ ks) e = cc
+
+  pub has_some : is_some (first_of h) ≡ ltb (lowest t v asid) 32
+  unfolding lowest
+  has_some = rw scanned (go (matching t.entries v asid 0) refl)
+    where
+      go : (l : List ℕ) → matching t.entries v asid 0 ≡ l → is_some (first_of (hits_of l)) ≡ ltb (head_of l) 32
+      go [] q = refl
+      go (j ∷ []) q = let b : j < 32 = omega (arith, below t.entries v asid 0 j [] q) in sym (lt-ltb j 32 b)
+      go (j ∷ k ∷ ks) q = let b : j < 32 = omega (arith, below t.entries v asid 0 j (k ∷ ks) q) in sym (lt-ltb j 32 b)

@@ -1,9 +1,5 @@
 -- Whether an entry matches, test by test.
-use mathlib.Core.Path.{◌≡◌, ap, ◌∙◌}
-use mathlib.Core.Bool.{true, false}
-use Prim.Native.Nat.{ℕ, ◌*◌}
-use lib.Dec.{eqb}
-use borrow.Author.Tests.{eq-eqb, ne_eqb}
+use Rattle.std.proofs.Common.{◌≡◌, ap, ◌∙◌, true, false, ℕ, ◌*◌, eqb, eq-eqb, ne_eqb}
 use Rattle.bits.specs.Field.{field_of}
 use Rattle.bits.specs.Mask.{cleared}
 use Rattle.tlb.specs.declared.entries.Entry.{Entry}

@@ -1,9 +1,10 @@
 -- The table: its fresh entries, and which of its entries match an address.
-use Rattle.std.specs.Prelude.{Bool, true, false, cond, ◌&&◌, List, [], ◌∷◌, ℕ, zero, suc, ◌-◌, ◌*◌, leb, get_or}
+use Rattle.std.specs.Prelude.{Bool, true, false, cond, ◌&&◌, List, [], ◌∷◌, ℕ, zero, suc, ◌-◌, ◌*◌, leb, Option, Some, None, get_or}
 use Rattle.tlb.specs.declared.entries.PageEntry.{PageEntry}
 use Rattle.tlb.specs.declared.entries.Entry.{Entry}
 use Rattle.tlb.specs.declared.table.Tlb.{Tlb}
 use Rattle.tlb.specs.declared.table.Hits.{Hits}
+use Rattle.tlb.specs.declared.table.Hits.TheVariants as hits
 use Rattle.tlb.specs.Entries.{matches_of}
 
 abbrev pub zero_half : PageEntry
@@ -50,6 +51,14 @@ several [] = false
 several (i ∷ []) = false
 several (i ∷ j ∷ is) = true
 
--- what the scan answers of them
+-- what the scan answers of them: none, the one, or the first of several
 abbrev pub hits_of : List ℕ → Hits
-hits_of l = record { first = head_of l; more = several l }
+hits_of [] = hits.None
+hits_of (i ∷ []) = hits.One i
+hits_of (i ∷ j ∷ is) = hits.Several i
+
+-- and the first of those
+abbrev pub first_of : Hits → Option ℕ
+first_of hits.None = None
+first_of (hits.One i) = Some i
+first_of (hits.Several i) = Some i

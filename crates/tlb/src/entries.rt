@@ -63,16 +63,14 @@ impl PageEntry {
     }
 
     // What a half of entry `entry` answers, where `offset` has the bits of an address within the page.
+    #[tactic(auto, unfolding(crate::specs::Entries::half_answer))]
     fn answer(self, entry: u8, offset: u64, vaddr: u64, store: bool) -> Result<Translated, TlbFault>
         ensures { result ≡ half_answer entry self offset vaddr store }
     {
         if !self.valid {
             return Err(TlbFault::Invalid);
         }
-        if !store {
-            return self.found(entry, offset, vaddr);
-        }
-        if !self.dirty {
+        if store && !self.dirty {
             return Err(TlbFault::Modified);
         }
         self.found(entry, offset, vaddr)
@@ -82,11 +80,9 @@ impl PageEntry {
     fn found(self, entry: u8, offset: u64, vaddr: u64) -> Result<Translated, TlbFault>
         ensures { result ≡ translated entry self offset vaddr }
     {
-        let addr = bits::low32(bits::merge(offset, vaddr, self.pfn as u64 * 4096));
-        let uncached = self.uncached();
         Ok(Translated {
-            addr,
-            uncached,
+            addr: bits::low32(bits::merge(offset, vaddr, self.pfn as u64 * 4096)),
+            uncached: self.uncached(),
             entry,
         })
     }
@@ -96,36 +92,33 @@ impl Entry {
     // Does the entry match? The valid bits have no part in it, so an invalid entry is found and gives Invalid, and two of
     // them clash (5.4.9). Nor have address bits 61..40: EntryHi does not hold them, and they are ones in a 32-bit kernel
     // address, which comes sign-extended.
+    #[tactic(auto, unfolding(crate::specs::Entries::matches_of))]
     pub(crate) fn matches(self, vaddr: u64, asid: u8) -> bool
         ensures { result ≡ matches_of self vaddr asid }
     {
-        if bits::field(vaddr, 63, 62) != self.region as u64 {
-            return false;
-        }
-        if bits::merge(self.page_mask as u64, 0, bits::field(vaddr, 39, 13) * 8192) != self.vpn2 {
-            return false;
-        }
-        if self.global {
-            return true;
-        }
-        self.asid == asid
+        let region = bits::field(vaddr, 63, 62);
+        let vpn2 = bits::merge(self.page_mask as u64, 0, bits::field(vaddr, 39, 13) * 8192);
+        region == self.region as u64 && vpn2 == self.vpn2 && (self.global || self.asid == asid)
     }
 
     // The half that an address selects: by the bit just above the offset within a page.
+    #[tactic(auto, unfolding(crate::specs::Entries::half_of))]
     fn half(self, vaddr: u64) -> PageEntry
         ensures { result ≡ half_of self vaddr }
     {
         if vaddr & Tlb::page_size(self.page_mask) == 0 {
-            return self.lo0;
+            self.lo0
+        } else {
+            self.lo1
         }
-        self.lo1
     }
 
     // What the one matching entry answers. An entry does not know its number, so the table says it.
+    #[tactic(auto, using(crate::proofs::Sizes::page_ge), unfolding(crate::specs::Entries::entry_answer))]
     pub(crate) fn answer(self, entry: u8, vaddr: u64, store: bool) -> Result<Translated, TlbFault>
         ensures { result ≡ entry_answer entry self vaddr store }
     {
-        let half = self.half(vaddr);
-        half.answer(entry, Tlb::page_size(self.page_mask) - 1, vaddr, store)
+        self.half(vaddr)
+            .answer(entry, Tlb::page_size(self.page_mask) - 1, vaddr, store)
     }
 }

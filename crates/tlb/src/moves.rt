@@ -8,39 +8,38 @@ use cop0::Cop0;
 
 impl Tlb {
     // `TLBWI`, `TLBWR`: the registers' entry goes into one place. The micro-TLB is emptied, and keeps its next slot.
+    #[tactic(auto, unfolding(crate::specs::Moves::written_of))]
     pub fn write_entry(mut self, index: usize, cop0: Cop0) -> Tlb
         ensures { result ≡ written_of self index cop0 }
     {
-        let at = index % 32;
-        let e = entry_from(cop0);
-        self.entries[at] = e;
+        self.entries[index % 32] = entry_from(cop0);
         self.itlb = [32, 32];
         self
     }
 
     // `TLBR`: an entry goes back into the registers. EntryHi has no G, so both halves take the entry's.
+    #[tactic(auto, unfolding(crate::specs::Moves::read_entry_of))]
     pub fn read_entry(self, index: usize, cop0: Cop0) -> Cop0
         ensures { result ≡ read_entry_of self index cop0 }
     {
         let e = self.entry(index);
-        let even = e.lo0;
-        let odd = e.lo1;
         cop0.set_hardware(Cop0::PAGE_MASK, e.page_mask as u64)
             .set_hardware(Cop0::ENTRY_HI, hi_from(e))
-            .set_hardware(Cop0::ENTRY_LO0, lo_from(even, e.global))
-            .set_hardware(Cop0::ENTRY_LO1, lo_from(odd, e.global))
+            .set_hardware(Cop0::ENTRY_LO0, lo_from(e.lo0, e.global))
+            .set_hardware(Cop0::ENTRY_LO1, lo_from(e.lo1, e.global))
     }
 
     // `TLBP`: Index takes the number of the lowest entry that matches EntryHi, or its bit 31 (5.4.1).
+    #[tactic(auto, using(crate::proofs::Looking::lowest_is, crate::proofs::Looking::first_below, crate::proofs::Looking::lowest_is_32), unfolding(crate::specs::Moves::probe_of))]
     pub fn probe(self, cop0: Cop0) -> Cop0
         ensures { result ≡ probe_of self cop0 }
     {
         let hi = cop0.read(Cop0::ENTRY_HI);
-        let first = self.scan(hi, bits::field(hi, 7, 0) as u8).first;
-        if first < 32 {
-            return cop0.set_hardware(Cop0::INDEX, first as u64);
-        }
-        cop0.set_hardware(Cop0::INDEX, 0x8000_0000)
+        let index = match self.scan(hi, bits::field(hi, 7, 0) as u8).first() {
+            Some(first) => first as u64,
+            None => 0x8000_0000,
+        };
+        cop0.set_hardware(Cop0::INDEX, index)
     }
 }
 
@@ -54,7 +53,7 @@ fn canonical_page_mask(mask: u64) -> u32
     upper | (upper >> 1)
 }
 
-// A half of an entry, as EntryLo0 or EntryLo1 has it (figure 5-10).
+// A half of an entry, as EntryLo0 or EntryLo1 has it (figure 5-10). No `From<u64>`: a bare number does not say that it is one.
 pub fn page_from(lo: u64) -> PageEntry
     ensures { result ≡ page_of lo }
 {
@@ -66,7 +65,8 @@ pub fn page_from(lo: u64) -> PageEntry
     }
 }
 
-// The entry that the registers have: what a write puts into its place.
+// The entry that the registers have: what a write puts into its place. No `From<Cop0>`: an entry is four of its registers.
+#[tactic(auto, unfolding(crate::specs::Moves::entry_of))]
 pub fn entry_from(cop0: Cop0) -> Entry
     ensures { result ≡ entry_of cop0 }
 {
@@ -74,28 +74,23 @@ pub fn entry_from(cop0: Cop0) -> Entry
     let lo0 = cop0.read(Cop0::ENTRY_LO0);
     let lo1 = cop0.read(Cop0::ENTRY_LO1);
     let mask = canonical_page_mask(cop0.read(Cop0::PAGE_MASK));
-    let even = page_from(lo0);
-    let odd = page_from(lo1);
-    let global = global_from(lo0, lo1);
     Entry {
         page_mask: mask,
         vpn2: bits::merge(mask as u64, 0, bits::field(hi, 39, 13) * 8192),
         asid: bits::field(hi, 7, 0) as u8,
-        global,
+        global: global_from(lo0, lo1),
         region: bits::field(hi, 63, 62) as u8,
-        lo0: even,
-        lo1: odd,
+        lo0: page_from(lo0),
+        lo1: page_from(lo1),
     }
 }
 
 // Global where both halves say so (figure 5-10).
+#[tactic(auto, unfolding(crate::specs::Moves::global_of))]
 fn global_from(lo0: u64, lo1: u64) -> bool
     ensures { result ≡ global_of lo0 lo1 }
 {
-    if bits::field(lo0, 0, 0) != 1 {
-        return false;
-    }
-    bits::field(lo1, 0, 0) == 1
+    bits::field(lo0, 0, 0) == 1 && bits::field(lo1, 0, 0) == 1
 }
 
 fn hi_from(e: Entry) -> u64

@@ -1,7 +1,7 @@
 // The table of 32 entries, and the lookup.
 ghost use Rattle.std.specs.Prelude.{◌≡◌, ◌%◌, ◌<◌, Err};
 ghost use Rattle.tlb.specs.Entries.{pair_size_of, page_size_of, told_lookup};
-ghost use Rattle.tlb.specs.Table.{fresh_entry, fresh_table, entry_at, matching, hits_of};
+ghost use Rattle.tlb.specs.Table.{fresh_entry, fresh_table, entry_at, matching, hits_of, first_of};
 ghost use Rattle.tlb.specs.Lookup.{lookup_answer, lookup_table, is_shutdown_of};
 
 use crate::entries::{Entry, PageEntry, TlbFault, Translated};
@@ -10,9 +10,9 @@ use crate::entries::{Entry, PageEntry, TlbFault, Translated};
 pub struct Tlb {
     pub entries: [Entry; 32],
     // The micro-TLB: two entry numbers, 32 for an empty slot. Numbers and no copies, so that it cannot serve an entry that
-    // was written since.
+    // was written since; no Options, as hosts save the record as words (`specs/Micro.antt`).
     pub itlb: [u8; 2],
-    // The slot that the next fill takes: the one not used last (1.5.1).
+    // The slot that the next fill takes, a number as in those words: the one not used last (1.5.1).
     pub itlb_lru: u8,
     // Two entries matched: the TLB is unusable until reset (5.1).
     pub shutdown: bool,
@@ -25,11 +25,24 @@ pub struct Looked {
     pub tlb: Tlb,
 }
 
-// The lowest entry that matches, or 32, and whether there is another.
+// The entries that match: none, one, or the lowest of several.
 #[derive(Clone, Copy)]
-pub(crate) struct Hits {
-    pub first: usize,
-    pub more: bool,
+pub(crate) enum Hits {
+    None,
+    One(usize),
+    Several(usize),
+}
+
+impl Hits {
+    // The lowest.
+    pub(crate) fn first(self) -> Option<usize>
+        ensures { result ≡ first_of self }
+    {
+        match self {
+            Hits::None => None,
+            Hits::One(i) | Hits::Several(i) => Some(i),
+        }
+    }
 }
 
 impl Tlb {
@@ -38,12 +51,8 @@ impl Tlb {
     pub fn new() -> Tlb
         ensures { result ≡ fresh_table }
     {
-        let mut entries = [fresh_entry(0); 32];
-        for i in 0..32 {
-            entries[i] = fresh_entry(i);
-        }
         Tlb {
-            entries,
+            entries: std::array::from_fn(fresh_entry),
             itlb: [32, 32],
             itlb_lru: 0,
             shutdown: false,
@@ -60,11 +69,11 @@ impl Tlb {
     pub fn entry(self, i: usize) -> Entry
         ensures { result ≡ entry_at self (i % 32) }
     {
-        let at = i % 32;
-        self.entries[at]
+        self.entries[i % 32]
     }
 
     // The size of one page, in bytes (table 5-7).
+    #[tactic(auto, unfolding(crate::specs::Entries::page_size_of))]
     pub fn page_size(mask: u32) -> u64
         ensures { result ≡ page_size_of mask }
     {
@@ -79,6 +88,7 @@ impl Tlb {
     }
 
     // Where an address leads. Two entries that match shut the TLB down for good, and a TLB that is shut down finds nothing.
+    #[tactic(auto, using(crate::proofs::Looking::one_below))]
     pub fn lookup(mut self, vaddr: u64, asid: u8, store: bool) -> Looked
         ensures { (told_lookup result.answer ≡ told_lookup (lookup_answer self vaddr asid store))
             × (result.tlb ≡ lookup_table self vaddr asid) }
@@ -86,20 +96,17 @@ impl Tlb {
         if self.shutdown {
             return self.fault();
         }
-        let hits = self.scan(vaddr, asid);
-        let first = hits.first;
-        if hits.more {
-            self.shutdown = true;
-            return self.fault();
-        }
-        if first < 32 {
-            let e = self.entries[first];
-            return Looked {
-                answer: e.answer(first as u8, vaddr, store),
+        match self.scan(vaddr, asid) {
+            Hits::None => self.fault(),
+            Hits::One(i) => Looked {
+                answer: self.entries[i].answer(i as u8, vaddr, store),
                 tlb: self,
-            };
+            },
+            Hits::Several(_) => {
+                self.shutdown = true;
+                self.fault()
+            }
         }
-        self.fault()
     }
 
     fn fault(self) -> Looked
@@ -112,27 +119,22 @@ impl Tlb {
     }
 
     // A scan that stops at the second match.
+    #[tactic(auto, using(crate::proofs::Scanning::one_scan))]
     pub(crate) fn scan(self, vaddr: u64, asid: u8) -> Hits
         ensures { result ≡ hits_of (matching self.entries vaddr asid 0) }
     {
-        let mut found: usize = 32;
-        let mut i: usize = 0;
-        while i < 32 {
-            let e = self.entries[i];
-            if e.matches(vaddr, asid) {
-                if found < 32 {
-                    return Hits {
-                        first: found,
-                        more: true,
-                    };
+        let mut found = None;
+        for (i, entry) in self.entries.iter().enumerate() {
+            if entry.matches(vaddr, asid) {
+                match found {
+                    None => found = Some(i),
+                    Some(first) => return Hits::Several(first),
                 }
-                found = i;
             }
-            i += 1;
         }
-        Hits {
-            first: found,
-            more: false,
+        match found {
+            None => Hits::None,
+            Some(first) => Hits::One(first),
         }
     }
 }
