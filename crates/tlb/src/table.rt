@@ -87,7 +87,8 @@ impl Tlb {
         (mask as u64 | 0x1FFF) + 1
     }
 
-    // Where an address leads. Two entries that match shut the TLB down for good, and a TLB that is shut down finds nothing.
+    // Where an address leads. Two entries that match shut the TLB down for good, and a TLB that is shut down finds nothing. An access is
+    // told by its address, ASID and direction one by one, here and above, as in the Rust original and in the exports.
     #[tactic(auto, using(crate::proofs::Looking::one_below))]
     pub fn lookup(mut self, vaddr: u64, asid: u8, store: bool) -> Looked
         ensures { (told_lookup result.answer ≡ told_lookup (lookup_answer self vaddr asid store))
