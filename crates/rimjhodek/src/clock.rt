@@ -6,7 +6,7 @@ ghost use Rattle.rimjhodek.specs.Answers.{flag_of};
 ghost use Rattle.rimjhodek.specs.Registers.{cop0_in, put_in, comes_to_compare};
 
 use crate::answers::Flag;
-use crate::words::{cop0_in, sized};
+use crate::words::cop0_in;
 use crate::{interrupts, registers};
 
 #[unsafe(no_mangle)]
@@ -61,7 +61,6 @@ pub extern "C" fn rimjhodek_advance(cop0: &mut [u64; 38], counts: u64, steps: u6
     ensures { (result ≡ flag_of (advance_told (cop0_in cop0.old) counts steps))
         × (cop0.new ≡ put_in cop0.old (advance_of (cop0_in cop0.old) counts steps)) }
 {
-    sized(*cop0);
     if counts >= 0x1_0000_0000 {
         return Flag {
             refused: 5,

@@ -4,7 +4,6 @@ ghost use Rattle.exception.specs.Epilogue.{recorded, addressed, handling};
 ghost use Rattle.rimjhodek.specs.Registers.{cop0_in, put_in};
 
 use crate::registers::{read, rimjhodek_set_hardware};
-use crate::words::sized;
 use cop0::Cop0;
 use exception::Exception;
 
@@ -29,7 +28,6 @@ pub(crate) const ERROR_EPC: u32 = Cop0::ERROR_EPC as u32;
 pub(crate) fn record(cop0: &mut [u64; 38], exc: Exception, pc: u64, in_delay_slot: bool)
     ensures { cop0.new ≡ put_in cop0.old (recorded (cop0_in cop0.old) exc pc in_delay_slot) }
 {
-    sized(*cop0);
     let new_cause = exception::cause(read(cop0, CAUSE), exc);
     if bits::field(read(cop0, STATUS), 1, 1) == 1 {
         rimjhodek_set_hardware(cop0, CAUSE, new_cause);
@@ -47,7 +45,6 @@ pub(crate) fn record(cop0: &mut [u64; 38], exc: Exception, pc: u64, in_delay_slo
 pub(crate) fn record_address(cop0: &mut [u64; 38], bad_vaddr: u64)
     ensures { cop0.new ≡ put_in cop0.old (addressed (cop0_in cop0.old) bad_vaddr) }
 {
-    sized(*cop0);
     let new_context = exception::context(read(cop0, CONTEXT), bad_vaddr);
     let new_xcontext = exception::xcontext(read(cop0, XCONTEXT), bad_vaddr);
     let new_entry_hi = exception::entry_hi(read(cop0, ENTRY_HI), bad_vaddr);

@@ -15,7 +15,6 @@ use crate::answers::{Flag, Number};
 use crate::epilogue::{EPC, ERROR_EPC, STATUS, enter, record, record_address};
 use crate::refusals::UNKNOWN;
 use crate::registers::{read, rimjhodek_set_hardware};
-use crate::words::sized;
 use exception::{EPILOGUE_STALL, Exception, VectorKind};
 
 // An exception by its number, in `Exception`'s order from 0, with the values that some of them hold.
@@ -49,7 +48,6 @@ pub extern "C" fn rimjhodek_dispatch(
     ensures { (result ≡ taken_of (dispatch_told (cop0_in cop0.old) exc pc in_delay_slot bad_vaddr))
         × (cop0.new ≡ put_in cop0.old (dispatched_of (cop0_in cop0.old) exc pc in_delay_slot bad_vaddr)) }
 {
-    sized(*cop0);
     // An access waits for a refill: it goes apart from the choice between the others.
     if exc.number == 10 {
         return refill(cop0, exc, pc, in_delay_slot, bad_vaddr);
@@ -70,7 +68,6 @@ pub extern "C" fn rimjhodek_nmi(cop0: &mut [u64; 38], pc: u64) -> Taken
     ensures { (result ≡ taken_of (answered (dispatch_values (nmi_of (cop0_in cop0.old) pc).dispatch)))
         × (cop0.new ≡ put_in cop0.old (nmi_of (cop0_in cop0.old) pc).cop0) }
 {
-    sized(*cop0);
     let status = read(cop0, STATUS);
     rimjhodek_set_hardware(cop0, ERROR_EPC, pc);
     rimjhodek_set_hardware(cop0, STATUS, exception::nmi_status(status));
@@ -168,7 +165,6 @@ fn dispatch(
         × (cop0.new ≡ put_in cop0.old
         (dispatch_of (cop0_in cop0.old) exc pc in_delay_slot bad_vaddr).cop0) }
 {
-    sized(*cop0);
     let kind = exception::vector_kind_of(exc);
     // NMI alone takes the Reset vector, and does nothing of what follows.
     if kind_number(kind) == 3 {
@@ -193,7 +189,6 @@ fn refill(cop0: &mut [u64; 38], exc: Exc, pc: u64, in_delay_slot: bool, bad_vadd
         × (cop0.new ≡ put_in cop0.old
         (dispatch_of (cop0_in cop0.old) (exception_of exc) pc in_delay_slot bad_vaddr).cop0) }
 {
-    sized(*cop0);
     let refill = exception_of(exc);
     let kind = exception::vector_kind_of(refill);
     let vector = exception::vector(read(cop0, STATUS), kind);

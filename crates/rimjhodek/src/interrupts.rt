@@ -5,14 +5,12 @@ ghost use Rattle.cop0.specs.Interrupt.{set_ip_of, interrupt_pending_of};
 ghost use Rattle.cop0.specs.Random.{random_steps, tick_random_of, tick_random_by_of};
 ghost use Rattle.rimjhodek.specs.Registers.{cop0_in, put_in};
 
-use crate::words::sized;
 
 // The hardware sets or clears a pending bit of Cause.
 #[unsafe(no_mangle)]
 pub extern "C" fn rimjhodek_set_ip(cop0: &mut [u64; 38], bit: u32, on: bool)
     ensures { cop0.new ≡ put_in cop0.old (set_ip_of (cop0_in cop0.old) bit on) }
 {
-    sized(*cop0);
     let at = 8 + bit % 8;
     cop0[13] = bits::with_field(cop0[13], at, at, on as u64);
 }
@@ -34,7 +32,6 @@ pub extern "C" fn rimjhodek_interrupt_pending(cop0: &[u64; 38]) -> bool
 pub extern "C" fn rimjhodek_tick_random(cop0: &mut [u64; 38])
     ensures { cop0.new ≡ put_in cop0.old (tick_random_of (cop0_in cop0.old)) }
 {
-    sized(*cop0);
     cop0[1] = stepped(cop0[6], cop0[1], 1);
 }
 
@@ -43,7 +40,6 @@ pub extern "C" fn rimjhodek_tick_random(cop0: &mut [u64; 38])
 pub extern "C" fn rimjhodek_tick_random_by(cop0: &mut [u64; 38], n: u64)
     ensures { cop0.new ≡ put_in cop0.old (tick_random_by_of (cop0_in cop0.old) n) }
 {
-    sized(*cop0);
     cop0[1] = stepped(cop0[6], cop0[1], n);
 }
 

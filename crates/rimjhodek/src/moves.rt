@@ -7,7 +7,7 @@ ghost use Rattle.rimjhodek.specs.Registers.{cop0_in, put_in};
 ghost use Rattle.rimjhodek.specs.Table.{entry_in, table_in, put_micro, put_entry, table_words, emptied, filled_with, index_for};
 
 use crate::table::lowest;
-use crate::words::{cop0_in, sized};
+use crate::words::cop0_in;
 use cop0::Cop0;
 use tlb::{Entry, PageEntry, Tlb, entry_from, page_from};
 
@@ -51,7 +51,6 @@ pub extern "C" fn rimjhodek_write_entry(tlb: &mut [u64; 132], index: usize, cop0
 pub extern "C" fn rimjhodek_read_entry(tlb: &[u64; 132], index: usize, cop0: &mut [u64; 38])
     ensures { cop0.new ≡ put_in cop0.old (read_entry_of (table_in tlb.now) index (cop0_in cop0.old)) }
 {
-    sized(*cop0);
     let e = entry_in(tlb, index % 32);
     let after = filled_with(e).read_entry(0, cop0_in(*cop0));
     let stored = after.regs;
@@ -66,7 +65,6 @@ pub extern "C" fn rimjhodek_read_entry(tlb: &[u64; 132], index: usize, cop0: &mu
 pub extern "C" fn rimjhodek_probe(tlb: &[u64; 132], cop0: &mut [u64; 38])
     ensures { cop0.new ≡ put_in cop0.old (probe_of (table_in tlb.now) (cop0_in cop0.old)) }
 {
-    sized(*cop0);
     let c = cop0_in(*cop0);
     let hi = c.read(Cop0::ENTRY_HI);
     let after = c.set_hardware(Cop0::INDEX, index_for(tlb, hi));

@@ -11,7 +11,6 @@ ghost use Rattle.rimjhodek.specs.Registers.{cop0_in, put_in, cop0_words, is_spec
 
 use crate::answers::Number;
 use crate::masks;
-use crate::words::sized;
 use cop0::Cop0;
 
 // The register file as at cold reset. Whatever was lent is overwritten whole.
@@ -105,7 +104,6 @@ fn count_at(position: u64, value: u64, tick: u64) -> u64
 pub extern "C" fn rimjhodek_dmtc0(cop0: &mut [u64; 38], n: u32, value: u64)
     ensures { cop0.new ≡ put_in cop0.old (dmtc0_of (cop0_in cop0.old) n value) }
 {
-    sized(*cop0);
     cop0[37] = value;
     store(cop0, n % 32, value);
     settle(cop0, n % 32, value);
@@ -116,7 +114,6 @@ pub extern "C" fn rimjhodek_dmtc0(cop0: &mut [u64; 38], n: u32, value: u64)
 pub extern "C" fn rimjhodek_mtc0(cop0: &mut [u64; 38], n: u32, value: u64)
     ensures { cop0.new ≡ put_in cop0.old (mtc0_of (cop0_in cop0.old) n value) }
 {
-    sized(*cop0);
     let moved = moved_32(n, value);
     cop0[37] = moved;
     store(cop0, n % 32, moved);
@@ -149,7 +146,6 @@ fn store(cop0: &mut [u64; 38], k: u32, value: u64)
 pub extern "C" fn rimjhodek_set_hardware(cop0: &mut [u64; 38], n: u32, value: u64)
     ensures { cop0.new ≡ put_in cop0.old (set_hardware_of (cop0_in cop0.old) n value) }
 {
-    sized(*cop0);
     let k = n % 32;
     let i = k as usize;
     let x = value & masks::arch_mask(k);
@@ -169,7 +165,6 @@ fn settle(cop0: &mut [u64; 38], k: u32, value: u64)
     requires { k < 32 }
     ensures { cop0.new ≡ put_in cop0.old (besides k value (cop0_in cop0.old)) }
 {
-    sized(*cop0);
     if !is_watched(k) {
         return;
     }
@@ -191,7 +186,6 @@ fn settle(cop0: &mut [u64; 38], k: u32, value: u64)
 pub(crate) fn ask(cop0: &mut [u64; 38])
     ensures { cop0.new ≡ put_in cop0.old (asked (cop0_in cop0.old)) }
 {
-    sized(*cop0);
     let count = count(cop0);
     cop0[35] = bits::with_field(cop0[35], 31, 0, count);
 }

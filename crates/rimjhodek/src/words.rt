@@ -1,6 +1,6 @@
 // What lent words mean. The register file is 38: the 32 registers as stored, then the clock's position, Count at its epoch, the
 // epoch's position, the last-asked Count, EC and the latch.
-ghost use Rattle.std.specs.Prelude.{◌≡◌, length};
+ghost use Rattle.std.specs.Prelude.{◌≡◌};
 ghost use Rattle.rimjhodek.specs.Registers.{cop0_in};
 
 use cop0::Cop0;
@@ -23,8 +23,3 @@ pub(crate) fn cop0_in(words: [u64; 38]) -> Cop0
         write_latch: words[37],
     }
 }
-
-// That there are 38 words, which their type says, as a fact. No code is left of it.
-pub(crate) fn sized(words: [u64; 38])
-    ensures { length words ≡ 38 }
-{}

@@ -29,7 +29,7 @@ returns-then-field-eq1 c =
 pub returns : goal.returns
 unfolding recorded
 returns c =
-    let start = made_none c.args.cop0.now c.sized.ensures in
+    let start = made_none c.args.cop0.now c.told-cop0 in
     set_last (made_set start EPC _ _ c.rimjhodek_set_hardware-2.ensures) Cause _ _ c.rimjhodek_set_hardware-3.ensures
     ∙ rw (
       c.epc.ensures,

@@ -21,7 +21,7 @@ read-requires-3 c = (search rules, refl)
 pub returns : goal.returns
 unfolding addressed
 returns c =
-    let m₀ = made_none c.args.cop0.now c.sized.ensures in
+    let m₀ = made_none c.args.cop0.now c.told-cop0 in
     let m₁ = made_set m₀ BadVAddr _ _ c.rimjhodek_set_hardware.ensures in
     let m₂ = made_set m₁ Context _ _ c.rimjhodek_set_hardware-2.ensures in
     let m₃ = made_set m₂ XContext _ _ c.rimjhodek_set_hardware-3.ensures in

@@ -28,7 +28,7 @@ returns-then-writes_bad_vaddr c =
       rw (c.taking.ensures, c.vector-vector.ensures)
           (told ws a.exc a.pc a.in_delay_slot a.bad_vaddr proper
           _ kind c.read.ensures c.vector_kind_of-kind.ensures),
-      faulted ws a.exc a.pc a.in_delay_slot a.bad_vaddr proper c.sized.ensures _ c.record.ensures
+      faulted ws a.exc a.pc a.in_delay_slot a.bad_vaddr proper c.told-cop0 _ c.record.ensures
           (sym c.writes_bad_vaddr.ensures ∙ c.if-writes_bad_vaddr.true)
           _ _ c.record_address.ensures c.enter.ensures,
     )
@@ -42,6 +42,6 @@ returns c =
       rw (c.taking-2.ensures, c.vector-vector.ensures)
           (told ws a.exc a.pc a.in_delay_slot a.bad_vaddr proper
           _ kind c.read.ensures c.vector_kind_of-kind.ensures),
-      unfaulted ws a.exc a.pc a.in_delay_slot a.bad_vaddr proper c.sized.ensures _ c.record.ensures
+      unfaulted ws a.exc a.pc a.in_delay_slot a.bad_vaddr proper c.told-cop0 _ c.record.ensures
           (sym c.writes_bad_vaddr.ensures ∙ c.if-writes_bad_vaddr.false) _ c.enter-2.ensures,
     )

@@ -20,7 +20,7 @@ returns c =
       rw (c.taking.ensures, c.vector-vector.ensures)
           (told ws e a.pc a.in_delay_slot a.bad_vaddr proper
           _ kind c.read.ensures c.vector_kind_of-kind.ensures),
-      faulted ws e a.pc a.in_delay_slot a.bad_vaddr proper c.sized.ensures _ c.record.ensures
+      faulted ws e a.pc a.in_delay_slot a.bad_vaddr proper c.told-cop0 _ c.record.ensures
           (refill_faults a.exc e c.exception_of-refill.ensures c.requires)
           _ _ c.record_address.ensures c.enter.ensures,
     )

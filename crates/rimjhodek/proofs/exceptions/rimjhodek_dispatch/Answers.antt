@@ -20,5 +20,5 @@ pub returns : goal.returns
 unfolding dispatch_told dispatched_of
 returns c = (
   rw (← c.is_exception.ensures, c.if-is_exception.false),
-  rw (← c.is_exception.ensures, c.if-is_exception.false) (sym (home c.args.cop0.now c.sized.ensures)),
+  rw (← c.is_exception.ensures, c.if-is_exception.false) (sym (home c.args.cop0.now c.told-cop0)),
 )

@@ -13,7 +13,7 @@ read-status-requires c = (search rules, refl)
 pub returns : goal.returns
 unfolding nmi_of
 returns c =
-    let start = made_none c.args.cop0.now c.sized.ensures in (
+    let start = made_none c.args.cop0.now c.told-cop0 in (
       rw (c.taking.ensures, c.vector.ensures),
       set_last (made_set start ErrorEPC _ _ c.rimjhodek_set_hardware.ensures) Status _ _ c.rimjhodek_set_hardware-2.ensures
           ∙ rw (c.nmi_status.ensures, c.read-status.ensures),

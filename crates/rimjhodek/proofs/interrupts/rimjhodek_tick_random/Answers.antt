@@ -4,4 +4,4 @@ use Rattle.rimjhodek.proofs.interrupts.rimjhodek_tick_random.Goals as goal
 
 pub returns : goal.returns
 returns c =
-    random_once c.args.cop0.now c.sized.ensures _ c.stepped.ensures
+    random_once c.args.cop0.now c.told-cop0 _ c.stepped.ensures

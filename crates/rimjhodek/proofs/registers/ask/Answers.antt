@@ -4,4 +4,4 @@ use Rattle.rimjhodek.proofs.registers.ask.Goals as goal
 
 pub returns : goal.returns
 returns c =
-    rw c.with_field.ensures (is_asked c.args.cop0.now c.sized.ensures _ c.count-count.ensures)
+    rw c.with_field.ensures (is_asked c.args.cop0.now c.told-cop0 _ c.count-count.ensures)

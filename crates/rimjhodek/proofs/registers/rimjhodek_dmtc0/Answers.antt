@@ -6,4 +6,4 @@ use Rattle.rimjhodek.proofs.registers.rimjhodek_dmtc0.Goals as goal
 pub returns : goal.returns
 returns c =
     let a = c.args in
-    c.settle.ensures ∙ moved a.cop0.now c.sized.ensures a.n a.value _ c.store.ensures
+    c.settle.ensures ∙ moved a.cop0.now c.told-cop0 a.n a.value _ c.store.ensures

@@ -8,4 +8,4 @@ pub returns : goal.returns
 unfolding set_hardware_of
 returns c =
     let a = c.args in
-    rw c.arch_mask.ensures (stored a.cop0.now (a.n % 32) _ (omega arith) c.sized.ensures)
+    rw c.arch_mask.ensures (stored a.cop0.now (a.n % 32) _ (omega arith) c.told-cop0)
