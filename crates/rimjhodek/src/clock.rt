@@ -47,12 +47,13 @@ pub extern "C" fn rimjhodek_timer_edge(cop0: &mut [u64; 38]) -> bool
 
 // Does Compare lie after the last-asked Count, and not after the present one? A distance of 0 wraps to the largest, and so one
 // comparison tests both.
+#[tactic(auto, using(crate::proofs::Advancing::reaches))]
 fn is_reached(count: u32, compare: u32, last: u32) -> bool
     ensures { result ≡ comes_to_compare count compare last }
 {
-    let to_compare = std::num::wrapping_sub_u32(compare, last);
-    let traveled = std::num::wrapping_sub_u32(count, last);
-    std::num::wrapping_sub_u32(to_compare, 1) < traveled
+    let to_compare = compare.wrapping_sub(last);
+    let traveled = count.wrapping_sub(last);
+    to_compare.wrapping_sub(1) < traveled
 }
 
 // Moves the clock by `counts` and Random by `steps`, asks the timer and raises its interrupt on an edge.
@@ -67,7 +68,7 @@ pub extern "C" fn rimjhodek_advance(cop0: &mut [u64; 38], counts: u64, steps: u6
             is: false,
         };
     }
-    let now = std::num::wrapping_add_u64(cop0[32], counts);
+    let now = cop0[32].wrapping_add(counts);
     cop0[32] = now;
     interrupts::rimjhodek_tick_random_by(cop0, steps);
     if rimjhodek_timer_edge(cop0) {

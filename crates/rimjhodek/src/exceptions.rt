@@ -12,9 +12,10 @@ ghost use Rattle.rimjhodek.specs.Registers.{cop0_in, put_in};
 ghost use Rattle.rimjhodek.specs.Exceptions.{is_exception, exception_of, is_kind, kind_of, dispatch_values, taken_of, dispatch_told, dispatched_of};
 
 use crate::answers::{Flag, Number};
-use crate::epilogue::{EPC, ERROR_EPC, STATUS, enter, record, record_address};
+use crate::epilogue::{enter, record, record_address};
 use crate::refusals::UNKNOWN;
-use crate::registers::{read, rimjhodek_set_hardware};
+use crate::register::Register;
+use crate::registers::{read, set_hardware};
 use exception::{EPILOGUE_STALL, Exception, VectorKind};
 
 // An exception by its number, in `Exception`'s order from 0, with the values that some of them hold.
@@ -63,31 +64,33 @@ pub extern "C" fn rimjhodek_dispatch(
 }
 
 // The non-maskable interrupt (6.4.6): ErrorEPC, and four bits of Status.
+#[tactic(auto, unfolding(crate::specs::Registers::is_special, cop0::specs::Registers::among))]
 #[unsafe(no_mangle)]
 pub extern "C" fn rimjhodek_nmi(cop0: &mut [u64; 38], pc: u64) -> Taken
     ensures { (result ≡ taken_of (answered (dispatch_values (nmi_of (cop0_in cop0.old) pc).dispatch)))
         × (cop0.new ≡ put_in cop0.old (nmi_of (cop0_in cop0.old) pc).cop0) }
 {
-    let status = read(cop0, STATUS);
-    rimjhodek_set_hardware(cop0, ERROR_EPC, pc);
-    rimjhodek_set_hardware(cop0, STATUS, exception::nmi_status(status));
+    let status = read(cop0, Register::STATUS);
+    set_hardware(cop0, Register::ERROR_EPC, pc);
+    set_hardware(cop0, Register::STATUS, exception::nmi_status(status));
     taking(exception::vector(status, VectorKind::Reset), EPILOGUE_STALL)
 }
 
 // `ERET`: answers where to resume. From an error's handler (ERL) by ErrorEPC, else by EPC.
+#[tactic(auto, unfolding(crate::specs::Registers::is_special, cop0::specs::Registers::among))]
 #[unsafe(no_mangle)]
 pub extern "C" fn rimjhodek_eret(cop0: &mut [u64; 38]) -> u64
     ensures { (result ≡ (eret_of (cop0_in cop0.old)).pc)
         × (cop0.new ≡ put_in cop0.old (eret_of (cop0_in cop0.old)).cop0) }
 {
-    let status = read(cop0, STATUS);
+    let status = read(cop0, Register::STATUS);
     if bits::field(status, 2, 2) == 1 {
-        let pc = read(cop0, ERROR_EPC);
-        rimjhodek_set_hardware(cop0, STATUS, bits::with_field(status, 2, 2, 0));
+        let pc = read(cop0, Register::ERROR_EPC);
+        set_hardware(cop0, Register::STATUS, bits::with_field(status, 2, 2, 0));
         return pc;
     }
-    let pc = read(cop0, EPC);
-    rimjhodek_set_hardware(cop0, STATUS, bits::with_field(status, 1, 1, 0));
+    let pc = read(cop0, Register::EPC);
+    set_hardware(cop0, Register::STATUS, bits::with_field(status, 1, 1, 0));
     pc
 }
 
@@ -153,6 +156,7 @@ fn is_kind(kind: u8) -> bool
 }
 
 // An exception's own steps on the words (figure 6-14): its cause, its faulting address where it has one, and EXL.
+#[tactic(auto, unfolding(crate::specs::Registers::is_special, cop0::specs::Registers::among))]
 fn dispatch(
     cop0: &mut [u64; 38],
     exc: Exception,
@@ -170,7 +174,7 @@ fn dispatch(
     if kind_number(kind) == 3 {
         return rimjhodek_nmi(cop0, pc);
     }
-    let vector = exception::vector(read(cop0, STATUS), kind);
+    let vector = exception::vector(read(cop0, Register::STATUS), kind);
     record(cop0, exc, pc, in_delay_slot);
     if exception::writes_bad_vaddr(exc) {
         record_address(cop0, bad_vaddr);
@@ -182,6 +186,7 @@ fn dispatch(
 }
 
 // The same of a refill. Its code, its address and its vector are known then, and the compiler leaves no choice between exceptions.
+#[tactic(auto, unfolding(crate::specs::Registers::is_special, cop0::specs::Registers::among))]
 fn refill(cop0: &mut [u64; 38], exc: Exc, pc: u64, in_delay_slot: bool, bad_vaddr: u64) -> Taken
     requires { exc.number ≡ 10 }
     ensures { (result ≡ taken_of (answered (dispatch_values
@@ -191,7 +196,7 @@ fn refill(cop0: &mut [u64; 38], exc: Exc, pc: u64, in_delay_slot: bool, bad_vadd
 {
     let refill = exception_of(exc);
     let kind = exception::vector_kind_of(refill);
-    let vector = exception::vector(read(cop0, STATUS), kind);
+    let vector = exception::vector(read(cop0, Register::STATUS), kind);
     record(cop0, refill, pc, in_delay_slot);
     record_address(cop0, bad_vaddr);
     enter(cop0);

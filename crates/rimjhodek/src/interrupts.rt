@@ -5,7 +5,6 @@ ghost use Rattle.cop0.specs.Interrupt.{set_ip_of, interrupt_pending_of};
 ghost use Rattle.cop0.specs.Random.{random_steps, tick_random_of, tick_random_by_of};
 ghost use Rattle.rimjhodek.specs.Registers.{cop0_in, put_in};
 
-
 // The hardware sets or clears a pending bit of Cause.
 #[unsafe(no_mangle)]
 pub extern "C" fn rimjhodek_set_ip(cop0: &mut [u64; 38], bit: u32, on: bool)

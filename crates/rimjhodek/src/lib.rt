@@ -12,6 +12,7 @@ mod masks;
 mod modes;
 mod moves;
 mod refusals;
+mod register;
 mod registers;
 mod sessions;
 mod table;

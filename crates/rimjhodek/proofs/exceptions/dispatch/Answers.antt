@@ -1,9 +1,7 @@
 -- NMI by itself; all others step by step, with and without an address.
-use Rattle.std.proofs.Common.{sym, refl, ◌∙◌, rules}
-use Rattle.cop0.specs.Registers.{among}
+use Rattle.std.proofs.Common.{sym, ◌∙◌}
 use Rattle.exception.specs.Kinds.{vector_kind_of}
 use Rattle.exception.specs.Taking.{dispatch_of}
-use Rattle.rimjhodek.specs.Registers.{is_special}
 use Rattle.rimjhodek.proofs.Taking.{is_reset_lem, not_reset, told, faulted, unfaulted}
 use Rattle.rimjhodek.proofs.exceptions.dispatch.Goals as goal
 
@@ -14,10 +12,6 @@ returns-then-kind_number-eq3 c =
     let kind = c.vector_kind_of-kind.result in
     let reset = is_reset_lem _ kind (vector_kind_of a.exc) c.kind_number.ensures c.vector_kind_of-kind.ensures c.if-kind_number-eq3.true in
     rw reset c.rimjhodek_nmi.ensures
-
-pub read-requires : goal.read-requires
-unfolding is_special among
-read-requires c = (search rules, refl)
 
 pub returns-then-writes_bad_vaddr : goal.returns-then-writes_bad_vaddr
 returns-then-writes_bad_vaddr c =

@@ -1,13 +1,6 @@
 -- Step by step.
-use Rattle.std.proofs.Common.{refl, rules}
-use Rattle.cop0.specs.Registers.{among}
-use Rattle.rimjhodek.specs.Registers.{is_special}
 use Rattle.rimjhodek.proofs.Taking.{told, faulted, refill_proper, refill_faults}
 use Rattle.rimjhodek.proofs.exceptions.refill.Goals as goal
-
-pub read-requires : goal.read-requires
-unfolding is_special among
-read-requires c = (search rules, refl)
 
 pub returns : goal.returns
 returns c =
