@@ -1,5 +1,6 @@
 -- A lookup in words, by what the scan found; and the lowest match, by asking one entry after another.
-use Rattle.std.proofs.Common.{◌≡◌, ℕ, ◌+◌, ◌-◌, ◌%◌, ◌^◌, ◌<◌, ◌≤◌, Bool, true, false, List, [], ◌∷◌, get_or, drop, set, sym, refl, ap, ◌∙◌, ap₂, arith, le-ltb, lt-ltb, eq-eqb, ne_eqb}
+use Rattle.std.proofs.Common.{ltb, cond, Some, None, is_some, ltb-true, ◌≡◌, ℕ, ◌+◌, ◌-◌, ◌%◌, ◌^◌, ◌<◌, ◌≤◌, Bool, true, false, List, [], ◌∷◌, get_or, drop, set, sym, refl, ap, ◌∙◌, ap₂, arith, lt-ltb, eq-eqb, ne_eqb}
+use Rattle.std.proofs.lemmas.Option.{cond_some}
 use Rattle.bits.specs.Field.{with_field_of}
 use Rattle.tlb.specs.declared.entries.TlbFault.TheVariants.{Refill}
 use Rattle.tlb.specs.declared.entries.LookupAnswer.{LookupAnswer}
@@ -9,9 +10,10 @@ use Rattle.tlb.specs.Entries.{matches_of, entry_answer}
 use Rattle.tlb.specs.Table.{with_vpn2, entry_at, matching, head_of, several, hits_of}
 use Rattle.tlb.specs.Lookup.{lookup_answer, lookup_table}
 use Rattle.tlb.specs.Micro.{lowest, slot_hits, probed_of, filled_of}
-use Rattle.tlb.proofs.Looking.{below, is_shut, clash, found, nothing}
+use Rattle.tlb.proofs.Looking.{below as table_below, is_shut, clash, found, nothing}
 use Rattle.tlb.proofs.Scanning.{held, turn_hit, turn_miss, ended_parts}
-use Rattle.rimjhodek.specs.Table.{entry_in, entries_in, table_in, put_micro, only_of, key_of, word_hits, looked_of}
+use Rattle.rimjhodek.specs.Table.{entry_in, entries_in, table_in, put_micro, only_of, key_of, word_hits, looked_of, if_below}
+use Rattle.rimjhodek.proofs.Naming.{cond_none}
 use Rattle.rimjhodek.proofs.Comparing.{matches_is}
 use Rattle.rimjhodek.proofs.Scanning.{entries_long, entry_at_lem}
 use Rattle.rimjhodek.proofs.Slots.{at_home, to_shut, to_next, to_slot}
@@ -41,7 +43,7 @@ module _ (ws : List ℕ) (v asid : ℕ) where
   l = matching (entries_in ws) v asid 0
 
   small : Small l
-  small j js e = omega (arith, below (entries_in ws) v asid 0 j js e, entries_long ws)
+  small j js e = omega (arith, table_below (entries_in ws) v asid 0 j js e, entries_long ws)
 
   -- what a lookup must answer and leave
   abbrev Looks : Bool → LookupAnswer → List ℕ → Type 0
@@ -139,6 +141,22 @@ module _ (ws : List ℕ) (v asid : ℕ) where
         let same : get_or ws 130 0 % 2 ^ 8 % 2 ≡ way = omega arith in
         rw (← ef, lt-ltb f 32 h, same, ey, ex) (to_slot ws f (omega arith) way (omega arith))
 
-    pub fills_nothing : 32 ≤ f → Fills ws
+    pub fills_nothing : ltb f 32 ≡ false → Fills ws
     unfolding filled_of
-    fills_nothing h = rw (← ef, le-ltb f 32 h) (sym (at_home ws))
+    fills_nothing h = rw (← ef, h) (sym (at_home ws))
+
+-- the number of an entry, or none
+pub some_below : (i : ℕ) → is_some (if_below i) ≡ ltb i 32
+some_below i = go (ltb i 32)
+  where
+    go : (b : Bool) → is_some (cond b (Some i) None) ≡ b
+    go true = refl
+    go false = refl
+
+pub below : (i n : ℕ) → if_below i ≡ Some n → (n ≡ i) × (n < 32)
+below i n e =
+    let w = cond_some (ltb i 32) i n e in
+    (sym w.1, rw (← w.1) (ltb-true i 32 w.0))
+
+pub not_below : (i : ℕ) → if_below i ≡ None → ltb i 32 ≡ false
+not_below i e = cond_none (ltb i 32) i e

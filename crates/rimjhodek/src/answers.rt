@@ -1,22 +1,27 @@
 // The caches' answers as they cross: the number of the refusal, or 0, and then the answer's values, each 0 where there is none.
-ghost use Rattle.std.specs.Prelude.{◌≡◌};
+ghost use Rattle.std.specs.Prelude.{◌≡◌, [], ◌∷◌};
+ghost use Rattle.bits.specs.Told.{answered, refused};
 ghost use Rattle.cache.specs.Answers.{told_done, told_value, told_plan, told_writeback};
 ghost use Rattle.cache.specs.Both.{hits_told};
+ghost use Rattle.tags.specs.Words.{hit_of};
+ghost use Rattle.tags.specs.Places.{word_for};
 ghost use Rattle.rimjhodek.specs.Answers.{flag_of, number_of, plan_of, eviction_of};
+ghost use Rattle.rimjhodek.specs.Numbered.{unknown};
 
+use crate::refusals::UNKNOWN;
 use cache::{Done, PlanAnswer, Value, WritebackAnswer};
 use tags::{tag_array, tag_word};
 
 // Yes or no.
 #[repr(C)]
-#[derive(Clone, Copy)]
+#[derive(Clone, Copy, Default)]
 pub struct Flag {
     pub refused: u8,
     pub is: bool,
 }
 
 #[repr(C)]
-#[derive(Clone, Copy)]
+#[derive(Clone, Copy, Default)]
 pub struct Number {
     pub refused: u8,
     pub value: u64,
@@ -24,7 +29,7 @@ pub struct Number {
 
 // What an access must do first: 0 nothing, 1 fill the line, 2 write the line back to `addr` and then fill it.
 #[repr(C)]
-#[derive(Clone, Copy)]
+#[derive(Clone, Copy, Default)]
 pub struct Plan {
     pub refused: u8,
     pub plan: u8,
@@ -33,11 +38,29 @@ pub struct Plan {
 
 // Whether a line is to be written back, and to which address.
 #[repr(C)]
-#[derive(Clone, Copy)]
+#[derive(Clone, Copy, Default)]
 pub struct Eviction {
     pub refused: u8,
     pub evict: bool,
     pub addr: u32,
+}
+
+impl Number {
+    pub(crate) fn of(value: u64) -> Number
+        ensures { result ≡ number_of (answered (value ∷ [])) }
+    {
+        Number { refused: 0, value }
+    }
+
+    // The answer where a number names nothing.
+    pub(crate) fn unknown() -> Number
+        ensures { result ≡ number_of (refused unknown) }
+    {
+        Number {
+            refused: UNKNOWN,
+            ..Number::default()
+        }
+    }
 }
 
 pub(crate) fn done_of(done: Done) -> u8
@@ -50,6 +73,7 @@ pub(crate) fn done_of(done: Done) -> u8
 }
 
 // Whether an address hits: a cache's `hits` without the enum that it answers by, which costs more than the question.
+#[tactic(auto, using(bits::proofs::FieldLaws::bit_undone), unfolding(cache::specs::Both::hits_told))]
 pub(crate) fn hits_in(tags: &[u32], addr: u32, size: u32) -> Flag
     ensures { result ≡ flag_of (hits_told size tags.now addr) }
 {
@@ -62,8 +86,15 @@ pub(crate) fn hits_in(tags: &[u32], addr: u32, size: u32) -> Flag
     }
     Flag {
         refused: 1,
-        is: false,
+        ..Flag::default()
     }
+}
+
+// The same of tag words whose number their type says.
+pub(crate) fn hit_in(tags: &[u32; 512], addr: u32, size: u32) -> bool
+    ensures { result ≡ hit_of (word_for size tags.now addr) addr }
+{
+    tag_word::is_hit(tag_array::word_for(tags, addr, size), addr)
 }
 
 pub(crate) fn number_of(value: Value) -> Number

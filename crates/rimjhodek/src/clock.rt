@@ -33,6 +33,7 @@ pub extern "C" fn rimjhodek_count_ticks_until_timer_match(cop0: &[u64; 38]) -> u
 }
 
 // Has Count come to Compare since the timer was last asked? The last-asked mark moves to the present Count.
+#[tactic(auto, using(crate::proofs::Advancing::edge_is))]
 #[unsafe(no_mangle)]
 pub extern "C" fn rimjhodek_timer_edge(cop0: &mut [u64; 38]) -> bool
     ensures { (result ≡ edge_of (cop0_in cop0.old))
@@ -65,7 +66,7 @@ pub extern "C" fn rimjhodek_advance(cop0: &mut [u64; 38], counts: u64, steps: u6
     if counts >= 0x1_0000_0000 {
         return Flag {
             refused: 5,
-            is: false,
+            ..Flag::default()
         };
     }
     let now = cop0[32].wrapping_add(counts);

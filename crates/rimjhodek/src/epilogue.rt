@@ -40,7 +40,7 @@ pub(crate) fn record_address(cop0: &mut [u64; 38], bad_vaddr: u64)
 }
 
 // EXL: kernel mode, with interrupts off.
-#[tactic(auto, unfolding(crate::specs::Registers::is_special, cop0::specs::Registers::among))]
+#[tactic(auto, unfolding(crate::specs::Registers::is_special, cop0::specs::Registers::among, exception::specs::Epilogue::handling))]
 pub(crate) fn enter(cop0: &mut [u64; 38])
     ensures { cop0.new ≡ put_in cop0.old (handling (cop0_in cop0.old)) }
 {

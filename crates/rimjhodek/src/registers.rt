@@ -39,6 +39,7 @@ impl Register {
 }
 
 // The register file as at cold reset. Whatever was lent is overwritten whole.
+#[tactic(auto, unfolding(crate::specs::Registers::put_in, cop0::specs::Record::fresh))]
 #[unsafe(no_mangle)]
 pub extern "C" fn rimjhodek_cop0_new(cop0: &mut [u64; 38])
     ensures { cop0.new ≡ cop0_words fresh }

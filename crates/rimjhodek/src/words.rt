@@ -9,6 +9,7 @@ use cop0::Cop0;
 pub(crate) fn cop0_in(words: [u64; 38]) -> Cop0
     ensures { result ≡ cop0_in words }
 {
+    // No `copy_from_slice`: it asks for the array's length, which is told of lent arrays alone.
     let mut regs = [0u64; 32];
     for i in 0..32 {
         regs[i] = words[i];

@@ -8,7 +8,7 @@ use Rattle.rimjhodek.proofs.clock.rimjhodek_advance.Goals as goal
 pub returns-then-counts-ge4294967296 : goal.returns-then-counts-ge4294967296
 unfolding advance_told advance_of
 returns-then-counts-ge4294967296 c =
-    simp (le-ltb _ _ c.if-counts-ge4294967296.true) (refl, sym (home c.args.cop0.now c.told-cop0))
+    simp (le-ltb _ _ c.if-counts-ge4294967296.true) (search rules, sym (home c.args.cop0.now c.told-cop0))
 
 pub returns-then-rimjhodek_timer_edge : goal.returns-then-rimjhodek_timer_edge
 returns-then-rimjhodek_timer_edge c =
