@@ -1,5 +1,5 @@
 -- The timer's question and the advance in words.
-use Rattle.std.proofs.Common.{◌≡◌, ℕ, ◌+◌, ◌%◌, ◌^◌, ◌<◌, ◌≤◌, Bool, true, false, ◌&&◌, ltb, leb, List, [], ◌∷◌, length, get_or, set, sym, refl, ap, ◌∙◌, arith, get_or-take, le-ltb, lt-ltb, le-leb}
+use Rattle.std.proofs.Common.{◌≡◌, ℕ, ◌+◌, ◌-◌, ◌%◌, ◌^◌, ◌<◌, ◌≤◌, Bool, true, false, ◌&&◌, ltb, leb, List, [], ◌∷◌, length, get_or, set, sym, refl, ap, ◌∙◌, arith, get_or-take, le-ltb, lt-ltb, le-leb}
 use native.Mathlib.Decide.{dec_le}
 use borrow.Author.Tests.{lt-leb}
 use Rattle.bits.specs.Extension.{low32_of}
@@ -28,10 +28,12 @@ one_test w d t hw ht e = go (dec_le 1 d) (dec_le d t)
     go (yes p) (no q) = rw (le-leb 1 d p, lt-leb d t (omega arith), le-ltb w t (omega arith))
     go (no p) q = rw (lt-leb 1 d (omega arith), le-ltb w t (omega arith))
 
-pub reaches : (w d t n k l : ℕ) → w < 2 ^ 32 → t < 2 ^ 32 → (w + 1) % 2 ^ 32 ≡ d → d ≡ less 32 k l → t ≡ less 32 n l
-    → ltb w t ≡ comes_to_compare n k l
+-- of a distance that has wrapped, by two subtractions
+pub reaches : (n k l : ℕ) → ltb ((less 32 k l + (2 ^ 32 - 1)) % 2 ^ 32) (less 32 n l) ≡ comes_to_compare n k l
 unfolding comes_to_compare
-reaches w d t n k l hw ht e ed et = rw (← ed, ← et) (one_test w d t hw ht e)
+reaches n k l =
+    let d : ℕ = less 32 k l in
+    one_test ((d + (2 ^ 32 - 1)) % 2 ^ 32) d (less 32 n l) (omega arith) (omega arith) (omega arith)
 
 -- the timer's question, of the three numbers that the code has read
 pub edge_is : (ws : List ℕ) (n k l : ℕ) → n ≡ low32_of (count_of (cop0_in ws)) → k ≡ low32_of (get_or ws 11 0) → l ≡ low32_of (get_or ws 35 0)

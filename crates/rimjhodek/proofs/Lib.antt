@@ -1,4 +1,3 @@
-pub mod Left
 pub mod Naming
 pub mod Reading
 pub mod Meaning

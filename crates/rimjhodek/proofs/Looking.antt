@@ -1,17 +1,19 @@
 -- A lookup in words, by what the scan found; and the lowest match, by asking one entry after another.
-use Rattle.std.proofs.Common.{◌≡◌, ℕ, ◌+◌, ◌-◌, ◌%◌, ◌^◌, ◌<◌, ◌≤◌, Bool, true, false, List, [], ◌∷◌, get_or, drop, set, sym, refl, ap, ◌∙◌, ap₂, arith, le-ltb, lt-ltb, eq-eqb, ne_eqb, Result, Err}
+use Rattle.std.proofs.Common.{ltb, cond, Some, None, is_some, ltb-true, ◌≡◌, ℕ, ◌+◌, ◌-◌, ◌%◌, ◌^◌, ◌<◌, ◌≤◌, Bool, true, false, List, [], ◌∷◌, get_or, drop, set, sym, refl, ap, ◌∙◌, ap₂, arith, lt-ltb, eq-eqb, ne_eqb, Result, Err}
+use Rattle.std.proofs.lemmas.Option.{cond_some}
 use Rattle.bits.specs.Field.{with_field_of}
 use Rattle.tlb.specs.declared.entries.TlbFault.TheVariants.{Refill}
 use Rattle.tlb.specs.declared.entries.Entry.{Entry}
 use Rattle.tlb.specs.declared.entries.Translated.{Translated}
 use Rattle.tlb.specs.declared.entries.TlbFault.{TlbFault}
 use Rattle.tlb.specs.Entries.{matches_of, entry_answer}
-use Rattle.tlb.specs.Table.{with_vpn2, entry_at, matching, head_of, several, hits_of}
+use Rattle.tlb.specs.Table.{with_vpn2, entry_at, matching, head_of, several}
 use Rattle.tlb.specs.Lookup.{lookup_answer, lookup_table}
 use Rattle.tlb.specs.Micro.{lowest, slot_hits, probed_of, filled_of}
-use Rattle.tlb.proofs.Looking.{below, is_shut, clash, found, nothing}
+use Rattle.tlb.proofs.Looking.{below as table_below, is_shut, none_answers, one_answers, several_shuts}
 use Rattle.tlb.proofs.Scanning.{held, turn_hit, turn_miss, ended_parts}
-use Rattle.rimjhodek.specs.Table.{entry_in, entries_in, table_in, put_micro, only_of, key_of, word_hits, looked_of}
+use Rattle.rimjhodek.specs.Table.{entry_in, entries_in, table_in, put_micro, only_of, key_of, word_hits, looked_of, if_below}
+use Rattle.rimjhodek.proofs.Naming.{cond_none}
 use Rattle.rimjhodek.proofs.Comparing.{matches_is}
 use Rattle.rimjhodek.proofs.Scanning.{entries_long, entry_at_lem}
 use Rattle.rimjhodek.proofs.Slots.{at_home, to_shut, to_next, to_slot}
@@ -21,13 +23,13 @@ abbrev Small : List ℕ → Type 0
 Small l = (j : ℕ) (js : List ℕ) → l ≡ j ∷ js → j < 32
 
 -- the scan's number, by how many match
-by_one : (l : List ℕ) → only_of l < 32 → (several l ≡ false) × (head_of l ≡ only_of l)
+by_one : (l : List ℕ) → only_of l < 32 → l ≡ only_of l ∷ []
 by_one [] h = absurd (omega arith)
-by_one (i ∷ []) h = (refl, refl)
+by_one (i ∷ []) h = refl
 by_one (i ∷ j ∷ is) h = absurd (omega arith)
 
-by_none : (l : List ℕ) → Small l → only_of l ≡ 32 → (several l ≡ false) × (head_of l ≡ 32)
-by_none [] s e = (refl, refl)
+by_none : (l : List ℕ) → Small l → only_of l ≡ 32 → l ≡ []
+by_none [] s e = refl
 by_none (i ∷ []) s e = absurd (omega (arith, s i [] refl))
 by_none (i ∷ j ∷ is) s e = absurd (omega arith)
 
@@ -41,7 +43,7 @@ module _ (ws : List ℕ) (v asid : ℕ) where
   l = matching (entries_in ws) v asid 0
 
   small : Small l
-  small j js e = omega (arith, below (entries_in ws) v asid 0 j js e, entries_long ws)
+  small j js e = omega (arith, table_below (entries_in ws) v asid 0 j js e, entries_long ws)
 
   -- what a lookup must answer and leave
   abbrev Looks : Bool → Result Translated TlbFault → List ℕ → Type 0
@@ -59,21 +61,18 @@ module _ (ws : List ℕ) (v asid : ℕ) where
 
       pub when_one : f < 32 → Looks store (entry_answer f (entry_in ws f) v store) ws
       when_one h =
-          let b = by_one l (rw ef at h) in
-          let first : head_of l ≡ f = b.1 ∙ sym ef in
-          let r = found (table_in ws) v asid store on (hits_of l) refl b.0 (rw first h) in
-          let at : entry_at (table_in ws) (head_of l) ≡ entry_in ws f = ap (entry_at (table_in ws)) first ∙ entry_at_lem ws f h in
-          (ap looked_of (ap₂ (λ (i : ℕ) (e : Entry). entry_answer i e v store) (sym first) (sym at) ∙ r.0), sym (at_home ws) ∙ ap (put_micro ws) r.1)
+          let r = one_answers (table_in ws) v asid store on f (by_one l (rw ef at h) ∙ ap (λ (i : ℕ). i ∷ []) (sym ef)) in
+          let at : entry_at (table_in ws) f ≡ entry_in ws f = entry_at_lem ws f h in
+          (ap looked_of (ap (λ (e : Entry). entry_answer f e v store) (sym at) ∙ r.0), sym (at_home ws) ∙ ap (put_micro ws) r.1)
 
       pub when_none : f ≡ 32 → Looks store (Err Refill) ws
       when_none h =
-          let b = by_none l small (sym ef ∙ h) in
-          let r = nothing (table_in ws) v asid store on (hits_of l) refl (entries_long ws) b.0 (omega (arith, b.1)) in
+          let r = none_answers (table_in ws) v asid store on (by_none l small (sym ef ∙ h)) in
           (ap looked_of r.0, sym (at_home ws) ∙ ap (put_micro ws) r.1)
 
       pub when_more : 32 ≤ f → (f ≡ 32 → ⊥) → Looks store (Err Refill) (set ws 131 (with_field_of (get_or ws 131 0) 0 0 1))
       when_more h n =
-          let r = clash (table_in ws) v asid store on (hits_of l) refl (by_more l small (rw ef at h) (λ q. n (ef ∙ q))) in
+          let r = several_shuts (table_in ws) v asid store on (by_more l small (rw ef at h) (λ q. n (ef ∙ q))) in
           (ap looked_of r.0, to_shut ws ∙ ap (put_micro ws) r.1)
 
   -- the lowest match is among the entries from i up
@@ -139,6 +138,22 @@ module _ (ws : List ℕ) (v asid : ℕ) where
         let same : get_or ws 130 0 % 2 ^ 8 % 2 ≡ way = omega arith in
         rw (← ef, lt-ltb f 32 h, same, ey, ex) (to_slot ws f (omega arith) way (omega arith))
 
-    pub fills_nothing : 32 ≤ f → Fills ws
+    pub fills_nothing : ltb f 32 ≡ false → Fills ws
     unfolding filled_of
-    fills_nothing h = rw (← ef, le-ltb f 32 h) (sym (at_home ws))
+    fills_nothing h = rw (← ef, h) (sym (at_home ws))
+
+-- the number of an entry, or none
+pub some_below : (i : ℕ) → is_some (if_below i) ≡ ltb i 32
+some_below i = go (ltb i 32)
+  where
+    go : (b : Bool) → is_some (cond b (Some i) None) ≡ b
+    go true = refl
+    go false = refl
+
+pub below : (i n : ℕ) → if_below i ≡ Some n → (n ≡ i) × (n < 32)
+below i n e =
+    let w = cond_some (ltb i 32) i n e in
+    (sym w.1, rw (← w.1) (ltb-true i 32 w.0))
+
+pub not_below : (i : ℕ) → if_below i ≡ None → ltb i 32 ≡ false
+not_below i e = cond_none (ltb i 32) i e

@@ -1,10 +1,11 @@
 -- Exceptions in words: each step goes on from the words that the one before made.
-use Rattle.std.proofs.Common.{◌≡◌, ℕ, Bool, true, false, cond, eqb, List, [], ◌∷◌, length, sym, refl, ◌∙◌, eq-eqb, ne_eqb}
+use Rattle.std.proofs.Common.{◌≡◌, ℕ, Bool, true, false, eqb, List, [], ◌∷◌, length, sym, refl, ◌∙◌, eq-eqb, ne_eqb}
 use Rattle.bits.specs.Told.{answered}
 use Rattle.cop0.specs.declared.registers.Cop0.{Cop0}
 use Rattle.cop0.specs.Registers.{Status}
 use Rattle.cop0.specs.File.{read_of, set_hardware_of}
 use Rattle.exception.specs.declared.kinds.Exception.{Exception}
+use Rattle.exception.specs.declared.kinds.Exception.TheVariants as refill
 use Rattle.exception.specs.declared.vectors.VectorKind.{VectorKind}
 use Rattle.exception.specs.declared.vectors.VectorKind.TheVariants.{General, TlbRefill, XtlbRefill, Reset}
 use Rattle.exception.specs.Kinds.{writes_bad_vaddr_of, vector_kind_of}
@@ -14,9 +15,8 @@ use Rattle.exception.specs.Taking.{dispatch_of}
 use Rattle.exception.specs.Taking as taking
 use Rattle.exception.proofs.Answers.{kind_one}
 use Rattle.exception.proofs.Keeping.{recorded_by, addressed_by}
-use Rattle.rimjhodek.specs.declared.exceptions.Exc.{Exc}
 use Rattle.rimjhodek.specs.Registers.{cop0_in, put_in}
-use Rattle.rimjhodek.specs.Exceptions.{exception_of, dispatch_values, taken_of}
+use Rattle.rimjhodek.specs.Exceptions.{dispatch_values, taken_of}
 use Rattle.rimjhodek.proofs.Meaning.{rest_none, Fits, in_fits, Holds, onto, held}
 use Rattle.rimjhodek.proofs.Fitting.{set_hardware_fits}
 
@@ -89,16 +89,7 @@ module _ (n : ℕ) (k k' : VectorKind) (en : n ≡ kind_number k) (ek : kind_num
   pub not_reset : (n ≡ 3 → ⊥) → is_reset k' ≡ false
   not_reset h = sym (numbered k') ∙ ne_eqb (kind_number k') 3 (λ q. h (en ∙ ek ∙ q))
 
--- and a refill by its own, whatever it holds: it has a faulting address
-module _ (e : Exc) (exc : Exception) (made : exc ≡ exception_of e) (refill : e.number ≡ 10) where
-  pub refill_proper : is_reset (vector_kind_of exc) ≡ false
-  unfolding exception_of
-  refill_proper = rw (made, refill) (go e.wide)
-    where
-      go : (wide : Bool) → is_reset (cond wide XtlbRefill TlbRefill) ≡ false
-      go true = refl
-      go false = refl
-
-  pub refill_faults : writes_bad_vaddr_of exc ≡ true
-  unfolding exception_of
-  refill_faults = rw (made, refill)
+-- and a refill by its own, whatever it holds
+pub refill_proper : (store wide : Bool) → is_reset (vector_kind_of (refill.TlbRefill store wide)) ≡ false
+refill_proper store true = refl
+refill_proper store false = refl

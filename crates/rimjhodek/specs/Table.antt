@@ -1,6 +1,6 @@
 -- The TLB as 132 words. Entry i is words 4i to 4i + 3: PageMask, EntryHi, EntryLo0 and EntryLo1 (figure 5-10). Words 128 and 129
 -- are the micro-TLB's slots, 130 its next slot, 131 whether the TLB is shut down.
-use Rattle.std.specs.Prelude.{ℕ, zero, suc, ◌+◌, ◌*◌, ◌/◌, ◌%◌, ◌^◌, Bool, false, cond, ◌&&◌, ◌||◌, List, [], ◌∷◌, ◌++◌, set, replicate, ◌==◌, nat_lt, slice_index, slice_set, Result, Ok, Err}
+use Rattle.std.specs.Prelude.{ℕ, zero, suc, ◌+◌, ◌*◌, ◌/◌, ◌%◌, ◌^◌, Bool, false, cond, ◌&&◌, ◌||◌, Option, Some, None, List, [], ◌∷◌, ◌++◌, set, replicate, ◌==◌, nat_lt, slice_index, slice_set, Result, Ok, Err}
 use Rattle.bits.specs.Field.{field_of, bit}
 use Rattle.bits.specs.Mask.{cleared}
 use Rattle.bits.specs.Extension.{low32_of}
@@ -27,6 +27,10 @@ entries_from ws i (suc n) = entry_in ws i ∷ entries_from ws (suc i) n
 
 abbrev pub entries_in : List ℕ → List Entry
 entries_in ws = entries_from ws 0 32
+
+-- the number of an entry, or none: 32
+abbrev pub if_below : ℕ → Option ℕ
+if_below i = cond (nat_lt i 32) (Some i) None
 
 -- of the entries that match: the one, 32 for none, 64 for more
 abbrev pub only_of : List ℕ → ℕ

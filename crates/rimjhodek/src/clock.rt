@@ -6,7 +6,7 @@ ghost use Rattle.rimjhodek.specs.Answers.{flag_of};
 ghost use Rattle.rimjhodek.specs.Registers.{cop0_in, put_in, comes_to_compare};
 
 use crate::answers::Flag;
-use crate::words::{cop0_in, sized};
+use crate::words::cop0_in;
 use crate::{interrupts, registers};
 
 #[unsafe(no_mangle)]
@@ -33,6 +33,7 @@ pub extern "C" fn rimjhodek_count_ticks_until_timer_match(cop0: &[u64; 38]) -> u
 }
 
 // Has Count come to Compare since the timer was last asked? The last-asked mark moves to the present Count.
+#[tactic(auto, using(crate::proofs::Advancing::edge_is))]
 #[unsafe(no_mangle)]
 pub extern "C" fn rimjhodek_timer_edge(cop0: &mut [u64; 38]) -> bool
     ensures { (result ≡ edge_of (cop0_in cop0.old))
@@ -47,12 +48,13 @@ pub extern "C" fn rimjhodek_timer_edge(cop0: &mut [u64; 38]) -> bool
 
 // Does Compare lie after the last-asked Count, and not after the present one? A distance of 0 wraps to the largest, and so one
 // comparison tests both.
+#[tactic(auto, using(crate::proofs::Advancing::reaches))]
 fn is_reached(count: u32, compare: u32, last: u32) -> bool
     ensures { result ≡ comes_to_compare count compare last }
 {
-    let to_compare = std::num::wrapping_sub_u32(compare, last);
-    let traveled = std::num::wrapping_sub_u32(count, last);
-    std::num::wrapping_sub_u32(to_compare, 1) < traveled
+    let to_compare = compare.wrapping_sub(last);
+    let traveled = count.wrapping_sub(last);
+    to_compare.wrapping_sub(1) < traveled
 }
 
 // Moves the clock by `counts` and Random by `steps`, asks the timer and raises its interrupt on an edge.
@@ -61,14 +63,13 @@ pub extern "C" fn rimjhodek_advance(cop0: &mut [u64; 38], counts: u64, steps: u6
     ensures { (result ≡ flag_of (advance_told (cop0_in cop0.old) counts steps))
         × (cop0.new ≡ put_in cop0.old (advance_of (cop0_in cop0.old) counts steps)) }
 {
-    sized(*cop0);
     if counts >= 0x1_0000_0000 {
         return Flag {
             refused: 5,
-            is: false,
+            ..Flag::default()
         };
     }
-    let now = std::num::wrapping_add_u64(cop0[32], counts);
+    let now = cop0[32].wrapping_add(counts);
     cop0[32] = now;
     interrupts::rimjhodek_tick_random_by(cop0, steps);
     if rimjhodek_timer_edge(cop0) {

@@ -9,7 +9,6 @@ ghost use Rattle.rimjhodek.specs.Answers.{flag_of, number_of, plan_of, eviction_
 use crate::answers;
 use crate::answers::{Eviction, Flag, Number, Plan};
 use cache::dcache;
-use tags::tag_word;
 
 // What an access must do first, and the bytes of the line that is evicted, or zero.
 #[repr(C)]
@@ -19,7 +18,8 @@ pub struct DataPlan {
     pub data: [u8; 16],
 }
 
-// Whether a line is to be written back, and its bytes, or zero.
+// Whether a line is to be written back, and its bytes, or zero. No const parameter for their number, which differs in the two caches:
+// the signature of an exported function may have none.
 #[repr(C)]
 #[derive(Clone, Copy)]
 pub struct DataLine {
@@ -48,8 +48,7 @@ pub extern "C" fn rimjhodek_dcache_hits(tags: &[u32], addr: u32) -> Flag
 pub extern "C" fn rimjhodek_dcache_hit(tags: &[u32; 512], addr: u32) -> bool
     ensures { result ≡ hit_of (word_for 16 tags.now addr) addr }
 {
-    let i = (addr / 16 % 512) as usize;
-    tag_word::is_hit(tags[i], addr)
+    answers::hit_in(tags, addr, 16)
 }
 
 #[unsafe(no_mangle)]

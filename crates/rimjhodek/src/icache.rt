@@ -9,9 +9,8 @@ ghost use Rattle.rimjhodek.specs.Answers.{flag_of, number_of, eviction_of};
 use crate::answers;
 use crate::answers::{Eviction, Flag, Number};
 use cache::icache;
-use tags::tag_word;
 
-// Whether a line is to be written back, and its bytes, or zero.
+// Whether a line is to be written back, and its bytes, or zero: `DataLine` with more bytes.
 #[repr(C)]
 #[derive(Clone, Copy)]
 pub struct InstructionLine {
@@ -40,8 +39,7 @@ pub extern "C" fn rimjhodek_icache_hits(tags: &[u32], addr: u32) -> Flag
 pub extern "C" fn rimjhodek_icache_hit(tags: &[u32; 512], addr: u32) -> bool
     ensures { result ≡ hit_of (word_for 32 tags.now addr) addr }
 {
-    let i = (addr / 32 % 512) as usize;
-    tag_word::is_hit(tags[i], addr)
+    answers::hit_in(tags, addr, 32)
 }
 
 #[unsafe(no_mangle)]

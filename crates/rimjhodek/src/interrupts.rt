@@ -5,14 +5,12 @@ ghost use Rattle.cop0.specs.Interrupt.{set_ip_of, interrupt_pending_of};
 ghost use Rattle.cop0.specs.Random.{random_steps, tick_random_of, tick_random_by_of};
 ghost use Rattle.rimjhodek.specs.Registers.{cop0_in, put_in};
 
-use crate::words::sized;
-
 // The hardware sets or clears a pending bit of Cause.
+#[tactic(auto, using(crate::proofs::Pending::ip_set))]
 #[unsafe(no_mangle)]
 pub extern "C" fn rimjhodek_set_ip(cop0: &mut [u64; 38], bit: u32, on: bool)
     ensures { cop0.new ≡ put_in cop0.old (set_ip_of (cop0_in cop0.old) bit on) }
 {
-    sized(*cop0);
     let at = 8 + bit % 8;
     cop0[13] = bits::with_field(cop0[13], at, at, on as u64);
 }
@@ -30,24 +28,25 @@ pub extern "C" fn rimjhodek_interrupt_pending(cop0: &[u64; 38]) -> bool
 }
 
 // One step of Random.
+#[tactic(auto, using(crate::proofs::Pending::random_once))]
 #[unsafe(no_mangle)]
 pub extern "C" fn rimjhodek_tick_random(cop0: &mut [u64; 38])
     ensures { cop0.new ≡ put_in cop0.old (tick_random_of (cop0_in cop0.old)) }
 {
-    sized(*cop0);
     cop0[1] = stepped(cop0[6], cop0[1], 1);
 }
 
 // `n` steps of Random.
+#[tactic(auto, using(crate::proofs::Pending::random_stepped))]
 #[unsafe(no_mangle)]
 pub extern "C" fn rimjhodek_tick_random_by(cop0: &mut [u64; 38], n: u64)
     ensures { cop0.new ≡ put_in cop0.old (tick_random_by_of (cop0_in cop0.old) n) }
 {
-    sized(*cop0);
     cop0[1] = stepped(cop0[6], cop0[1], n);
 }
 
 // Random after `n` steps, of Wired and Random as stored: the walk down to Wired, and then a cycle that is entered at 31.
+#[tactic(auto, using(crate::proofs::Pending::walked, crate::proofs::Pending::entered, crate::proofs::Pending::cycled))]
 fn stepped(wired: u64, random: u64, n: u64) -> u64
     ensures { result ≡ random_steps (field_of wired 5 0) n (field_of random 5 0) }
 {

@@ -1,4 +1,5 @@
-// What other languages link: each operation over state that the caller owns and lends as plain words.
+// What other languages link: each operation over state that the caller owns and lends as plain words. C reads the answers, so that
+// numbers and flags stand in them for enums and Options.
 #![tactic(auto)]
 
 mod answers;
@@ -11,7 +12,9 @@ mod interrupts;
 mod masks;
 mod modes;
 mod moves;
+mod places;
 mod refusals;
+mod register;
 mod registers;
 mod sessions;
 mod table;

@@ -1,9 +1,9 @@
 // Modes and segments.
-ghost use Rattle.std.specs.Prelude.{◌≡◌, Ok};
+ghost use Rattle.std.specs.Prelude.{◌≡◌, cond, slice_get, Some, None, Ok};
 ghost use Rattle.addr.specs.Access.{access_of};
 ghost use Rattle.addr.specs.Answers.{mode_number, told_access};
 ghost use Rattle.bits.specs.Told.{answered};
-ghost use Rattle.rimjhodek.specs.Modes.{is_mode, mode_in, access_in, granted_of, is_cached, segment_values, reached_of, segment_told};
+ghost use Rattle.rimjhodek.specs.Modes.{is_mode, modes, access_in, granted_of, is_cached, segment_values, reached_of, segment_told};
 
 use crate::refusals::UNKNOWN;
 use addr::{Access, Cached, Mode, Segment};
@@ -19,7 +19,7 @@ pub struct By {
 
 // The access that Status asks for; where it is refused the refusal's number, and all else is 0.
 #[repr(C)]
-#[derive(Clone, Copy)]
+#[derive(Clone, Copy, Default)]
 pub struct Granted {
     pub refused: u8,
     pub mode: u8,
@@ -29,7 +29,7 @@ pub struct Granted {
 
 // How an address is reached. `kind` is 0 for directly, 1 by the TLB, 2 not at all.
 #[repr(C)]
-#[derive(Clone, Copy)]
+#[derive(Clone, Copy, Default)]
 pub struct Reached {
     pub refused: u8,
     pub kind: u8,
@@ -42,12 +42,10 @@ pub extern "C" fn rimjhodek_from_status(status: u64) -> Granted
     ensures { result ≡ granted_of (access_of status) }
 {
     match Access::from_status(status) {
-        Ok(access) => granting(access),
+        Ok(access) => Granted::from(access),
         Err(refusal) => Granted {
             refused: refusal.number(),
-            mode: 0,
-            wide: false,
-            erl: false,
+            ..Granted::default()
         },
     }
 }
@@ -56,80 +54,72 @@ pub extern "C" fn rimjhodek_from_status(status: u64) -> Granted
 pub extern "C" fn rimjhodek_segment(vaddr: u64, access: By) -> Reached
     ensures { result ≡ reached_of (segment_told access vaddr) }
 {
-    if is_mode(access.mode) {
-        return reaching(access_in(access).segment(vaddr));
-    }
-    Reached {
-        refused: UNKNOWN,
-        kind: 0,
-        cached: false,
-        addr: 0,
-    }
-}
-
-fn reaching(segment: Segment) -> Reached
-    ensures { result ≡ reached_of (answered (segment_values segment)) }
-{
-    match segment {
-        Segment::Direct { addr, cached } => Reached {
-            refused: 0,
-            kind: 0,
-            cached: is_cached(cached),
-            addr,
-        },
-        Segment::Mapped => Reached {
-            refused: 0,
-            kind: 1,
-            cached: false,
-            addr: 0,
-        },
-        Segment::Invalid => Reached {
-            refused: 0,
-            kind: 2,
-            cached: false,
-            addr: 0,
+    match access_in(access) {
+        Some(access) => Reached::from(access.segment(vaddr)),
+        None => Reached {
+            refused: UNKNOWN,
+            ..Reached::default()
         },
     }
 }
 
-fn granting(asked: Access) -> Granted
-    ensures { result ≡ granted_of (told_access (Ok asked)) }
-{
-    let mode = asked.mode;
-    Granted {
-        refused: 0,
-        mode: number_of(mode),
-        wide: asked.wide,
-        erl: asked.erl,
+impl From<Segment> for Reached {
+    ghost from_gives = { λ segment reached. reached ≡ reached_of (answered (segment_values segment)) };
+
+    fn from(segment: Segment) -> Reached {
+        match segment {
+            Segment::Direct { addr, cached } => Reached {
+                cached: is_cached(cached),
+                addr,
+                ..Reached::default()
+            },
+            Segment::Mapped => Reached {
+                kind: 1,
+                ..Reached::default()
+            },
+            Segment::Invalid => Reached {
+                kind: 2,
+                ..Reached::default()
+            },
+        }
     }
 }
 
-// Does a number name a mode?
-pub(crate) fn is_mode(mode: u8) -> bool
-    ensures { result ≡ is_mode mode }
-{
-    mode < 3
+impl From<Access> for Granted {
+    ghost from_gives = { λ access granted. granted ≡ granted_of (told_access (Ok access)) };
+
+    fn from(access: Access) -> Granted {
+        let mode = access.mode;
+        Granted {
+            refused: 0,
+            mode: number_of(mode),
+            wide: access.wide,
+            erl: access.erl,
+        }
+    }
 }
 
 // The access, where its mode's number names one.
-pub(crate) fn access_in(access: By) -> Access
-    ensures { result ≡ access_in access }
+#[tactic(auto, using(crate::proofs::Naming::mode_named))]
+pub(crate) fn access_in(by: By) -> Option<Access>
+    ensures { result ≡ cond (is_mode by.mode) (Some (access_in by)) None }
 {
-    Access {
-        mode: mode_in(access.mode),
-        wide: access.wide,
-        erl: access.erl,
-    }
+    Some(Access {
+        mode: mode_in(by.mode)?,
+        wide: by.wide,
+        erl: by.erl,
+    })
 }
 
-#[tactic(auto, unfolding(crate::specs::Modes::mode_in))]
-fn mode_in(mode: u8) -> Mode
-    ensures { result ≡ mode_in mode }
+// The mode that a number names.
+fn mode_in(mode: u8) -> Option<Mode>
+    ensures { result ≡ slice_get modes mode }
 {
     match mode {
-        0 => Mode::Kernel,
-        1 => Mode::Supervisor,
-        _ => Mode::User,
+        0 => Some(Mode::Kernel),
+        1 => Some(Mode::Supervisor),
+        2 => Some(Mode::User),
+        _ => None,
     }
 }
 

@@ -1,13 +1,14 @@
 // Entries between the TLB's words and the registers': TLBWI and TLBWR, TLBR, TLBP.
-ghost use Rattle.std.specs.Prelude.{◌≡◌, ◌%◌, ◌<◌};
+ghost use Rattle.std.specs.Prelude.{◌≡◌, ◌%◌};
 ghost use Rattle.tlb.specs.Table.{fresh_entry, fresh_table};
 ghost use Rattle.tlb.specs.Moves.{entry_of, written_of, read_entry_of, probe_of};
 ghost use Rattle.tlb.specs.Words.{hi_word, lo_word};
 ghost use Rattle.rimjhodek.specs.Registers.{cop0_in, put_in};
 ghost use Rattle.rimjhodek.specs.Table.{entry_in, table_in, put_micro, put_entry, table_words, emptied, filled_with, index_for};
 
+use crate::places::Index;
 use crate::table::lowest;
-use crate::words::{cop0_in, sized};
+use crate::words::cop0_in;
 use cop0::Cop0;
 use tlb::{Entry, PageEntry, Tlb, entry_from, page_from};
 
@@ -19,30 +20,30 @@ pub extern "C" fn rimjhodek_tlb_new(tlb: &mut [u64; 132])
     let blank = [0; 132];
     *tlb = blank;
     for i in 0..32 {
-        put_fresh(tlb, i);
+        put_fresh(tlb, Index { number: i });
     }
     empty(tlb);
 }
 
 // The four words of a fresh entry: its VPN2 is its own, so that no two match one address, and all else is 0.
-fn put_fresh(tlb: &mut [u64; 132], i: usize)
-    requires { i < 32 }
-    ensures { tlb.new ≡ put_entry tlb.old i (fresh_entry i) }
+fn put_fresh(tlb: &mut [u64; 132], i: Index)
+    ensures { tlb.new ≡ put_entry tlb.old i.number (fresh_entry i.number) }
 {
-    let at = 4 * i;
+    let at = 4 * i.number;
     tlb[at] = 0;
-    tlb[at + 1] = (0x7FF_FFFF - i as u64) * 8192;
+    tlb[at + 1] = (0x7FF_FFFF - i.number as u64) * 8192;
     tlb[at + 2] = 0;
     tlb[at + 3] = 0;
 }
 
 // `TLBWI`, `TLBWR`: the registers' entry goes into one place.
+#[tactic(auto, using(crate::proofs::Entering::put_written))]
 #[unsafe(no_mangle)]
 pub extern "C" fn rimjhodek_write_entry(tlb: &mut [u64; 132], index: usize, cop0: &[u64; 38])
     ensures { tlb.new ≡ put_micro (put_entry tlb.old (index % 32) (entry_of (cop0_in cop0.now)))
         (written_of (table_in tlb.old) index (cop0_in cop0.now)) }
 {
-    put_entry(tlb, index % 32, entry_from(cop0_in(*cop0)));
+    put_entry(tlb, Index::of(index), entry_from(cop0_in(*cop0)));
     empty(tlb);
 }
 
@@ -51,8 +52,7 @@ pub extern "C" fn rimjhodek_write_entry(tlb: &mut [u64; 132], index: usize, cop0
 pub extern "C" fn rimjhodek_read_entry(tlb: &[u64; 132], index: usize, cop0: &mut [u64; 38])
     ensures { cop0.new ≡ put_in cop0.old (read_entry_of (table_in tlb.now) index (cop0_in cop0.old)) }
 {
-    sized(*cop0);
-    let e = entry_in(tlb, index % 32);
+    let e = entry_in(tlb, Index::of(index));
     let after = filled_with(e).read_entry(0, cop0_in(*cop0));
     let stored = after.regs;
     cop0[5] = stored[5];
@@ -66,7 +66,6 @@ pub extern "C" fn rimjhodek_read_entry(tlb: &[u64; 132], index: usize, cop0: &mu
 pub extern "C" fn rimjhodek_probe(tlb: &[u64; 132], cop0: &mut [u64; 38])
     ensures { cop0.new ≡ put_in cop0.old (probe_of (table_in tlb.now) (cop0_in cop0.old)) }
 {
-    sized(*cop0);
     let c = cop0_in(*cop0);
     let hi = c.read(Cop0::ENTRY_HI);
     let after = c.set_hardware(Cop0::INDEX, index_for(tlb, hi));
@@ -75,22 +74,22 @@ pub extern "C" fn rimjhodek_probe(tlb: &[u64; 132], cop0: &mut [u64; 38])
 }
 
 // Index for EntryHi's own address and ASID.
+#[tactic(auto, using(crate::proofs::Looking::below, crate::proofs::Looking::not_below), unfolding(crate::specs::Table::index_for))]
 fn index_for(tlb: &[u64; 132], hi: u64) -> u64
     ensures { result ≡ index_for tlb.now hi }
 {
-    let first = lowest(tlb, hi, bits::field(hi, 7, 0) as u8);
-    if first < 32 {
-        return first as u64;
+    match lowest(tlb, hi, bits::field(hi, 7, 0) as u8) {
+        Some(first) => first as u64,
+        None => 0x8000_0000,
     }
-    0x8000_0000
 }
 
 // The entry that four words mean. Its G is EntryLo0's: a write gives both halves the same.
-fn entry_in(tlb: &[u64; 132], i: usize) -> Entry
-    requires { i < 32 }
-    ensures { result ≡ entry_in tlb.now i }
+#[tactic(auto, unfolding(crate::specs::Table::entry_in))]
+fn entry_in(tlb: &[u64; 132], i: Index) -> Entry
+    ensures { result ≡ entry_in tlb.now i.number }
 {
-    let at = 4 * i;
+    let at = 4 * i.number;
     let mask = bits::low32(tlb[at]);
     let hi = tlb[at + 1];
     let lo0 = tlb[at + 2];
@@ -108,11 +107,10 @@ fn entry_in(tlb: &[u64; 132], i: usize) -> Entry
 }
 
 // An entry's four words.
-fn put_entry(tlb: &mut [u64; 132], i: usize, e: Entry)
-    requires { i < 32 }
-    ensures { tlb.new ≡ put_entry tlb.old i e }
+fn put_entry(tlb: &mut [u64; 132], i: Index, e: Entry)
+    ensures { tlb.new ≡ put_entry tlb.old i.number e }
 {
-    let at = 4 * i;
+    let at = 4 * i.number;
     let even = e.lo0;
     let odd = e.lo1;
     tlb[at] = e.page_mask as u64;

@@ -1,5 +1,5 @@
 // The register file as 38 words: 32 registers, now, the epoch's value and tick, the last-asked Count, EC, the latch.
-ghost use Rattle.std.specs.Prelude.{◌≡◌, ◌%◌, ◌<◌, false, slice_index, slice_set};
+ghost use Rattle.std.specs.Prelude.{◌≡◌, ◌%◌, false, slice_index, slice_set};
 ghost use Rattle.bits.specs.Extension.{low32_of};
 ghost use Rattle.bits.specs.Mask.{merged};
 ghost use Rattle.cop0.specs.Registers.{named, unused, wide, write_mask};
@@ -10,11 +10,36 @@ ghost use Rattle.cop0.specs.Access.{mfc0_of, dmfc0_of, moved32, mtc0_of, dmtc0_o
 ghost use Rattle.rimjhodek.specs.Registers.{cop0_in, put_in, cop0_words, is_special, special_of, is_watched, form_of};
 
 use crate::answers::Number;
-use crate::masks;
-use crate::words::sized;
+use crate::register::Register;
 use cop0::Cop0;
 
+impl Register {
+    // Does it read something else than its own bits under a mask? One test on the common way.
+    #[tactic(auto, using(crate::proofs::Reading::special_bits))]
+    fn is_special(self) -> bool
+        ensures { result ≡ is_special self.number }
+    {
+        bits::field(0x83E1_0280, self.number, self.number) == 1
+    }
+
+    // Does a write do anything besides?
+    #[tactic(auto, using(crate::proofs::Writing::watched_bits))]
+    fn is_watched(self) -> bool
+        ensures { result ≡ is_watched self.number }
+    {
+        bits::field(0xA40, self.number, self.number) == 1
+    }
+
+    #[tactic(auto, using(cop0::proofs::Numbers::wide_bits))]
+    fn is_wide(self) -> bool
+        ensures { result ≡ wide self.number }
+    {
+        bits::field(0x4010_451C, self.number, self.number) == 1
+    }
+}
+
 // The register file as at cold reset. Whatever was lent is overwritten whole.
+#[tactic(auto, unfolding(crate::specs::Registers::put_in, cop0::specs::Record::fresh))]
 #[unsafe(no_mangle)]
 pub extern "C" fn rimjhodek_cop0_new(cop0: &mut [u64; 38])
     ensures { cop0.new ≡ cop0_words fresh }
@@ -32,57 +57,51 @@ pub extern "C" fn rimjhodek_cop0_new(cop0: &mut [u64; 38])
 }
 
 // `DMFC0 rt, rd`.
+#[tactic(auto, using(crate::proofs::Reading::read_special))]
 #[unsafe(no_mangle)]
 pub extern "C" fn rimjhodek_dmfc0(cop0: &[u64; 38], n: u32) -> u64
     ensures { result ≡ dmfc0_of (cop0_in cop0.now) n }
 {
-    let k = n % 32;
-    if is_special(k) {
-        return special(cop0, k);
+    let rd = Register::of(n);
+    if rd.is_special() {
+        return special(cop0, rd);
     }
-    read(cop0, k)
+    read(cop0, rd)
 }
 
 // `MFC0 rt, rd`.
+#[tactic(auto, using(crate::proofs::Reading::read_special))]
 #[unsafe(no_mangle)]
 pub extern "C" fn rimjhodek_mfc0(cop0: &[u64; 38], n: u32) -> u64
     ensures { result ≡ mfc0_of (cop0_in cop0.now) n }
 {
-    let k = n % 32;
-    if is_special(k) {
-        return bits::sign_extend(bits::low32(special(cop0, k)));
+    let rd = Register::of(n);
+    if rd.is_special() {
+        return bits::sign_extend(bits::low32(special(cop0, rd)));
     }
-    bits::sign_extend(bits::low32(read(cop0, k)))
+    bits::sign_extend(bits::low32(read(cop0, rd)))
 }
 
 // Register `k`, of those that read nothing but their own bits under a mask.
-pub(crate) fn read(cop0: &[u64; 38], k: u32) -> u64
-    requires { (k < 32) × (is_special k ≡ false) }
-    ensures { result ≡ read_at (cop0_in cop0.now) k }
+#[tactic(auto, using(crate::proofs::Reading::read_plain))]
+pub(crate) fn read(cop0: &[u64; 38], k: Register) -> u64
+    requires { is_special k.number ≡ false }
+    ensures { result ≡ read_at (cop0_in cop0.now) k.number }
 {
-    let i = k as usize;
-    cop0[i] & masks::arch_mask(k)
-}
-
-// Does register `k` read something else than its own bits under a mask? One test on the common way.
-fn is_special(k: u32) -> bool
-    requires { k < 32 }
-    ensures { result ≡ is_special k }
-{
-    bits::field(0x83E1_0280, k, k) == 1
+    let i = k.number as usize;
+    cop0[i] & k.arch_mask()
 }
 
 // Count, Config, and the unused ones, which read the latch.
-fn special(cop0: &[u64; 38], k: u32) -> u64
-    ensures { result ≡ special_of (cop0_in cop0.now) k }
+#[tactic(auto, unfolding(crate::specs::Registers::special_of, cop0::specs::Registers::arch_mask))]
+fn special(cop0: &[u64; 38], k: Register) -> u64
+    ensures { result ≡ special_of (cop0_in cop0.now) k.number }
 {
-    if k == 9 {
-        return count(cop0);
+    match k.number {
+        9 => count(cop0),
+        16 => cop0[16] & 0x0F00_800F | cop0[36] % 256 * 0x1000_0000 | 0x0006_6460,
+        _ => cop0[37],
     }
-    if k == 16 {
-        return cop0[16] & 0x0F00_800F | cop0[36] % 256 * 0x1000_0000 | 0x0006_6460;
-    }
-    cop0[37]
 }
 
 pub(crate) fn count(cop0: &[u64; 38]) -> u64
@@ -95,123 +114,115 @@ pub(crate) fn count(cop0: &[u64; 38]) -> u64
 fn count_at(position: u64, value: u64, tick: u64) -> u64
     ensures { result ≡ count_at position (low32_of value) tick }
 {
-    let elapsed = std::num::wrapping_sub_u64(position, tick);
-    let low = std::num::wrapping_add_u32(bits::low32(value), bits::low32(elapsed));
+    let elapsed = position.wrapping_sub(tick);
+    let low = bits::low32(value).wrapping_add(bits::low32(elapsed));
     low as u64
 }
 
 // `DMTC0 rd, rt`.
+#[tactic(auto, using(crate::proofs::Writing::moved))]
 #[unsafe(no_mangle)]
 pub extern "C" fn rimjhodek_dmtc0(cop0: &mut [u64; 38], n: u32, value: u64)
     ensures { cop0.new ≡ put_in cop0.old (dmtc0_of (cop0_in cop0.old) n value) }
 {
-    sized(*cop0);
+    let rd = Register::of(n);
     cop0[37] = value;
-    store(cop0, n % 32, value);
-    settle(cop0, n % 32, value);
+    store(cop0, rd, value);
+    settle(cop0, rd, value);
 }
 
 // `MTC0 rd, rt`.
+#[tactic(auto, using(crate::proofs::Writing::moved), unfolding(cop0::specs::Access::moved32))]
 #[unsafe(no_mangle)]
 pub extern "C" fn rimjhodek_mtc0(cop0: &mut [u64; 38], n: u32, value: u64)
     ensures { cop0.new ≡ put_in cop0.old (mtc0_of (cop0_in cop0.old) n value) }
 {
-    sized(*cop0);
-    let moved = moved_32(n, value);
+    let rd = Register::of(n);
+    let moved = moved_32(rd, value);
     cop0[37] = moved;
-    store(cop0, n % 32, moved);
-    settle(cop0, n % 32, moved);
+    store(cop0, rd, moved);
+    settle(cop0, rd, moved);
 }
 
 // The bits under the register's write mask, and for three registers more. MTC0 and DMTC0 take the same two steps themselves: a
 // function of both is too large to be compiled into them.
+#[tactic(auto, using(crate::proofs::Writing::written))]
 #[unsafe(no_mangle)]
 pub extern "C" fn rimjhodek_write(cop0: &mut [u64; 38], n: u32, value: u64)
     ensures { cop0.new ≡ put_in cop0.old (write_of (cop0_in cop0.old) n value) }
 {
-    let k = n % 32;
+    let k = Register::of(n);
     store(cop0, k, value);
     settle(cop0, k, value);
 }
 
 // The bits under the register's write mask.
-fn store(cop0: &mut [u64; 38], k: u32, value: u64)
-    requires { k < 32 }
-    ensures { cop0.new ≡ slice_set cop0.old k (merged (write_mask k) value (slice_index cop0.old k)) }
+fn store(cop0: &mut [u64; 38], k: Register, value: u64)
+    ensures { cop0.new ≡ slice_set cop0.old k.number (merged (write_mask k.number) value (slice_index cop0.old k.number)) }
 {
-    let i = k as usize;
-    let x = bits::merge(masks::write_mask(k), value, cop0[i]);
-    cop0[i] = x;
+    let i = k.number as usize;
+    cop0[i] = bits::merge(k.write_mask(), value, cop0[i]);
 }
 
 // A write past the write mask, for what the hardware owns.
+#[tactic(auto, unfolding(cop0::specs::File::set_hardware_of))]
 #[unsafe(no_mangle)]
 pub extern "C" fn rimjhodek_set_hardware(cop0: &mut [u64; 38], n: u32, value: u64)
     ensures { cop0.new ≡ put_in cop0.old (set_hardware_of (cop0_in cop0.old) n value) }
 {
-    sized(*cop0);
-    let k = n % 32;
-    let i = k as usize;
-    let x = value & masks::arch_mask(k);
-    cop0[i] = x;
+    set_hardware(cop0, Register::of(n), value);
 }
 
-// Does a write to register `k` do anything besides?
-fn is_watched(k: u32) -> bool
-    requires { k < 32 }
-    ensures { result ≡ is_watched k }
+// The same of a register.
+#[tactic(auto, using(crate::proofs::Meaning::stored), unfolding(cop0::specs::File::set_hardware_of))]
+pub(crate) fn set_hardware(cop0: &mut [u64; 38], k: Register, value: u64)
+    ensures { cop0.new ≡ put_in cop0.old (set_hardware_of (cop0_in cop0.old) k.number value) }
 {
-    bits::field(0xA40, k, k) == 1
+    let i = k.number as usize;
+    cop0[i] = value & k.arch_mask();
 }
 
 // What a write to Count, Compare or Wired does besides.
-fn settle(cop0: &mut [u64; 38], k: u32, value: u64)
-    requires { k < 32 }
-    ensures { cop0.new ≡ put_in cop0.old (besides k value (cop0_in cop0.old)) }
+#[tactic(auto, using(crate::proofs::Writing::to_count, crate::proofs::Writing::to_compare, crate::proofs::Writing::to_wired, crate::proofs::Writing::to_other))]
+fn settle(cop0: &mut [u64; 38], k: Register, value: u64)
+    ensures { cop0.new ≡ put_in cop0.old (besides k.number value (cop0_in cop0.old)) }
 {
-    sized(*cop0);
-    if !is_watched(k) {
+    if !k.is_watched() {
         return;
     }
-    if k == 9 {
-        cop0[33] = bits::with_field(cop0[33], 31, 0, value);
-        cop0[34] = cop0[32];
-        ask(cop0);
-        return;
+    match k.number {
+        9 => {
+            cop0[33] = bits::with_field(cop0[33], 31, 0, value);
+            cop0[34] = cop0[32];
+            ask(cop0);
+        }
+        11 => {
+            cop0[13] = bits::with_field(cop0[13], 15, 15, 0);
+            ask(cop0);
+        }
+        _ => cop0[1] = 31,
     }
-    if k == 11 {
-        cop0[13] = bits::with_field(cop0[13], 15, 15, 0);
-        ask(cop0);
-        return;
-    }
-    cop0[1] = 31;
 }
 
 // The last-asked mark moves to the present Count.
+#[tactic(auto, using(crate::proofs::Writing::is_asked))]
 pub(crate) fn ask(cop0: &mut [u64; 38])
     ensures { cop0.new ≡ put_in cop0.old (asked (cop0_in cop0.old)) }
 {
-    sized(*cop0);
     let count = count(cop0);
     cop0[35] = bits::with_field(cop0[35], 31, 0, count);
 }
 
 // What MTC0 writes of a value: its low half, sign-extended for a register of 64 bits.
-fn moved_32(n: u32, value: u64) -> u64
-    ensures { result ≡ moved32 n value }
+#[tactic(auto, unfolding(cop0::specs::Access::moved32))]
+fn moved_32(k: Register, value: u64) -> u64
+    ensures { result ≡ moved32 k.number value }
 {
     let low = bits::low32(value);
-    if is_wide(n % 32) {
+    if k.is_wide() {
         return bits::sign_extend(low);
     }
     bits::zero_extend(low)
-}
-
-fn is_wide(k: u32) -> bool
-    requires { k < 32 }
-    ensures { result ≡ wide k }
-{
-    bits::field(0x4010_451C, k, k) == 1
 }
 
 // Is register `n` one of the unused ones?
@@ -227,7 +238,7 @@ pub extern "C" fn rimjhodek_is_unused(n: u32) -> bool
 pub extern "C" fn rimjhodek_is_wide(n: u32) -> bool
     ensures { result ≡ wide (n % 32) }
 {
-    is_wide(n % 32)
+    Register::of(n).is_wide()
 }
 
 // The access form that an rs field names: 0 MFC0, 1 DMFC0, 2 MTC0, 3 DMTC0.

@@ -3,14 +3,13 @@ ghost use Rattle.std.specs.Prelude.{◌≡◌};
 ghost use Rattle.addr.specs.Answers.{told_segment};
 ghost use Rattle.addr.specs.Segments.{segment_of};
 ghost use Rattle.addr.specs.Translate.{translate_answer, translate_table};
-ghost use Rattle.rimjhodek.specs.Modes.{access_in};
 ghost use Rattle.rimjhodek.specs.Table.{table_in, put_micro};
 ghost use Rattle.rimjhodek.specs.Translation.{translated_of, via_answer, via_table, is_useg, is_kseg0, is_kseg1, direct, unmapped};
 
-use crate::modes::{By, access_in, is_cached, is_mode};
+use crate::modes::{By, access_in, is_cached};
 use crate::refusals::UNKNOWN;
 use crate::table::{Looked, failed, look};
-use addr::Segment;
+use addr::{Access, Segment};
 
 // Where an address leads by an access. The kernel's KSEG0 and KSEG1, where most accesses go, are asked before the other segments;
 // they are the kernel's whatever the width, with ERL or without.
@@ -33,16 +32,16 @@ pub extern "C" fn rimjhodek_translate_via(
             return unmapped(vaddr, true);
         }
     }
-    if is_mode(access.mode) {
-        return translate(tlb, vaddr, asid, store, access);
+    match access_in(access) {
+        Some(access) => translate(tlb, vaddr, asid, store, access),
+        None => failed(UNKNOWN),
     }
-    failed(UNKNOWN)
 }
 
 // Directly where the segment says so, else by the TLB.
-fn translate(tlb: &mut [u64; 132], vaddr: u64, asid: u8, store: bool, access: By) -> Looked
-    ensures { (result ≡ translated_of (translate_answer (table_in tlb.old) vaddr asid store (access_in access)))
-        × (tlb.new ≡ put_micro tlb.old (translate_table (table_in tlb.old) vaddr asid (access_in access))) }
+fn translate(tlb: &mut [u64; 132], vaddr: u64, asid: u8, store: bool, access: Access) -> Looked
+    ensures { (result ≡ translated_of (translate_answer (table_in tlb.old) vaddr asid store access))
+        × (tlb.new ≡ put_micro tlb.old (translate_table (table_in tlb.old) vaddr asid access)) }
 {
     match segment_of(access, vaddr) {
         Segment::Direct { addr, cached } => direct(addr, !is_cached(cached)),
@@ -52,16 +51,20 @@ fn translate(tlb: &mut [u64; 132], vaddr: u64, asid: u8, store: bool, access: By
 }
 
 // The segment of an address. The low 2 GB, where most mapped addresses are, are asked before the others.
-fn segment_of(access: By, vaddr: u64) -> Segment
-    ensures { told_segment result ≡ told_segment (segment_of (access_in access) vaddr) }
+#[tactic(auto, using(crate::proofs::Segments::useg_segment))]
+fn segment_of(access: Access, vaddr: u64) -> Segment
+    ensures { told_segment result ≡ told_segment (segment_of access vaddr) }
 {
     if is_useg(access.erl, vaddr) {
         return Segment::Mapped;
     }
-    access_in(access).segment(vaddr)
+    // Put together again for the call, so that it waits in no memory before the question.
+    let Access { mode, wide, erl } = access;
+    Access { mode, wide, erl }.segment(vaddr)
 }
 
 // Does an address lie in the low 2 GB, which every mode maps in either width, unless ERL makes them direct (5.2.2)?
+#[tactic(auto, unfolding(crate::specs::Translation::is_useg, addr::specs::Segments::inside))]
 fn is_useg(erl: bool, vaddr: u64) -> bool
     ensures { result ≡ is_useg erl vaddr }
 {
@@ -71,7 +74,7 @@ fn is_useg(erl: bool, vaddr: u64) -> bool
     vaddr <= 0x7FFF_FFFF
 }
 
-// Does an address lie in KSEG0, which is cached (5.2.4)?
+// Does an address lie in KSEG0, which is cached (5.2.4)? Apart from KSEG1: asked as one range, each costs one to three instructions more.
 fn is_kseg0(vaddr: u64) -> bool
     ensures { result ≡ is_kseg0 vaddr }
 {

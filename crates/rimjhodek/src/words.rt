@@ -1,6 +1,6 @@
 // What lent words mean. The register file is 38: the 32 registers as stored, then the clock's position, Count at its epoch, the
 // epoch's position, the last-asked Count, EC and the latch.
-ghost use Rattle.std.specs.Prelude.{◌≡◌, length};
+ghost use Rattle.std.specs.Prelude.{◌≡◌};
 ghost use Rattle.rimjhodek.specs.Registers.{cop0_in};
 
 use cop0::Cop0;
@@ -9,6 +9,7 @@ use cop0::Cop0;
 pub(crate) fn cop0_in(words: [u64; 38]) -> Cop0
     ensures { result ≡ cop0_in words }
 {
+    // No `copy_from_slice`: it asks for the array's length, which is told of lent arrays alone.
     let mut regs = [0u64; 32];
     for i in 0..32 {
         regs[i] = words[i];
@@ -23,8 +24,3 @@ pub(crate) fn cop0_in(words: [u64; 38]) -> Cop0
         write_latch: words[37],
     }
 }
-
-// That there are 38 words, which their type says, as a fact. No code is left of it.
-pub(crate) fn sized(words: [u64; 38])
-    ensures { length words ≡ 38 }
-{}

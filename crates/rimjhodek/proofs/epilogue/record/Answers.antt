@@ -1,23 +1,14 @@
 -- By EXL: Cause alone, or EPC and then Cause.
-use Rattle.std.proofs.Common.{refl, ◌∙◌, rules, eq-eqb, ne_eqb}
-use Rattle.cop0.specs.Registers.{Cause, EPC, among}
+use Rattle.std.proofs.Common.{◌∙◌, eq-eqb, ne_eqb}
+use Rattle.cop0.specs.Registers.{Cause, EPC}
 use Rattle.exception.specs.Epilogue.{recorded}
-use Rattle.rimjhodek.specs.Registers.{is_special}
 use Rattle.rimjhodek.proofs.Taking.{made_none, made_set, set_last}
 use Rattle.rimjhodek.proofs.epilogue.record.Goals as goal
-
-pub read-requires : goal.read-requires
-unfolding is_special among
-read-requires c = (search rules, refl)
-
-pub read-requires-2 : goal.read-requires-2
-unfolding is_special among
-read-requires-2 c = (search rules, refl)
 
 pub returns-then-field-eq1 : goal.returns-then-field-eq1
 unfolding recorded
 returns-then-field-eq1 c =
-    c.rimjhodek_set_hardware.ensures
+    c.set_hardware.ensures
     ∙ rw (
       c.cause-new_cause.ensures,
       c.read.ensures,
@@ -29,8 +20,8 @@ returns-then-field-eq1 c =
 pub returns : goal.returns
 unfolding recorded
 returns c =
-    let start = made_none c.args.cop0.now c.sized.ensures in
-    set_last (made_set start EPC _ _ c.rimjhodek_set_hardware-2.ensures) Cause _ _ c.rimjhodek_set_hardware-3.ensures
+    let start = made_none c.args.cop0.now c.told-cop0 in
+    set_last (made_set start EPC _ _ c.set_hardware-2.ensures) Cause _ _ c.set_hardware-3.ensures
     ∙ rw (
       c.epc.ensures,
       c.with_field.ensures,

@@ -1,9 +1,7 @@
 -- NMI by itself; all others step by step, with and without an address.
-use Rattle.std.proofs.Common.{sym, refl, ◌∙◌, rules}
-use Rattle.cop0.specs.Registers.{among}
+use Rattle.std.proofs.Common.{sym, ◌∙◌}
 use Rattle.exception.specs.Kinds.{vector_kind_of}
 use Rattle.exception.specs.Taking.{dispatch_of}
-use Rattle.rimjhodek.specs.Registers.{is_special}
 use Rattle.rimjhodek.proofs.Taking.{is_reset_lem, not_reset, told, faulted, unfaulted}
 use Rattle.rimjhodek.proofs.exceptions.dispatch.Goals as goal
 
@@ -15,10 +13,6 @@ returns-then-kind_number-eq3 c =
     let reset = is_reset_lem _ kind (vector_kind_of a.exc) c.kind_number.ensures c.vector_kind_of-kind.ensures c.if-kind_number-eq3.true in
     rw reset c.rimjhodek_nmi.ensures
 
-pub read-requires : goal.read-requires
-unfolding is_special among
-read-requires c = (search rules, refl)
-
 pub returns-then-writes_bad_vaddr : goal.returns-then-writes_bad_vaddr
 returns-then-writes_bad_vaddr c =
     let a = c.args in
@@ -28,7 +22,7 @@ returns-then-writes_bad_vaddr c =
       rw (c.taking.ensures, c.vector-vector.ensures)
           (told ws a.exc a.pc a.in_delay_slot a.bad_vaddr proper
           _ kind c.read.ensures c.vector_kind_of-kind.ensures),
-      faulted ws a.exc a.pc a.in_delay_slot a.bad_vaddr proper c.sized.ensures _ c.record.ensures
+      faulted ws a.exc a.pc a.in_delay_slot a.bad_vaddr proper c.told-cop0 _ c.record.ensures
           (sym c.writes_bad_vaddr.ensures ∙ c.if-writes_bad_vaddr.true)
           _ _ c.record_address.ensures c.enter.ensures,
     )
@@ -42,6 +36,6 @@ returns c =
       rw (c.taking-2.ensures, c.vector-vector.ensures)
           (told ws a.exc a.pc a.in_delay_slot a.bad_vaddr proper
           _ kind c.read.ensures c.vector_kind_of-kind.ensures),
-      unfaulted ws a.exc a.pc a.in_delay_slot a.bad_vaddr proper c.sized.ensures _ c.record.ensures
+      unfaulted ws a.exc a.pc a.in_delay_slot a.bad_vaddr proper c.told-cop0 _ c.record.ensures
           (sym c.writes_bad_vaddr.ensures ∙ c.if-writes_bad_vaddr.false) _ c.enter-2.ensures,
     )

@@ -1,26 +1,19 @@
 -- Step by step.
-use Rattle.std.proofs.Common.{refl, rules}
-use Rattle.cop0.specs.Registers.{among}
-use Rattle.rimjhodek.specs.Registers.{is_special}
-use Rattle.rimjhodek.proofs.Taking.{told, faulted, refill_proper, refill_faults}
+use Rattle.std.proofs.Common.{refl}
+use Rattle.exception.specs.declared.kinds.Exception.TheVariants.{TlbRefill}
+use Rattle.rimjhodek.proofs.Taking.{told, faulted, refill_proper}
 use Rattle.rimjhodek.proofs.exceptions.refill.Goals as goal
-
-pub read-requires : goal.read-requires
-unfolding is_special among
-read-requires c = (search rules, refl)
 
 pub returns : goal.returns
 returns c =
     let a = c.args in
     let ws = a.cop0.now in
-    let e = c.exception_of-refill.result in
+    let e = TlbRefill a.store a.wide in
     let kind = c.vector_kind_of-kind.result in
-    let proper = refill_proper a.exc e c.exception_of-refill.ensures c.requires in
-    rw (← c.exception_of-refill.ensures) (
+    let proper = refill_proper a.store a.wide in (
       rw (c.taking.ensures, c.vector-vector.ensures)
           (told ws e a.pc a.in_delay_slot a.bad_vaddr proper
           _ kind c.read.ensures c.vector_kind_of-kind.ensures),
-      faulted ws e a.pc a.in_delay_slot a.bad_vaddr proper c.sized.ensures _ c.record.ensures
-          (refill_faults a.exc e c.exception_of-refill.ensures c.requires)
+      faulted ws e a.pc a.in_delay_slot a.bad_vaddr proper c.told-cop0 _ c.record.ensures refl
           _ _ c.record_address.ensures c.enter.ensures,
     )

@@ -14,4 +14,4 @@ returns c =
     let ws = a.cop0.now in
     let after : c.set_hardware-after.result ≡ probe_of (table_in a.tlb.now) (cop0_in ws) =
     rw (c.set_hardware-after.ensures, c.index_for.ensures, c.read-hi.ensures, c.cop0_in-c.ensures) in
-    ap (λ (d : Cop0). putting_back of_probe d.regs ws) after ∙ put_probed ws c.sized.ensures (table_in a.tlb.now)
+    ap (λ (d : Cop0). putting_back of_probe d.regs ws) after ∙ put_probed ws c.told-cop0 (table_in a.tlb.now)

@@ -15,5 +15,5 @@ returns c =
     let ws = a.cop0.now in
     let t = table_in a.tlb.now in
     let after : c.read_entry-after.result ≡ read_entry_of t a.index (cop0_in ws) =
-    rw (c.read_entry-after.ensures, c.cop0_in.ensures, c.filled_with.ensures, c.entry_in-e.ensures, entry_at_lem a.tlb.now (a.index % 32) (omega arith)) in
-    ap (λ (d : Cop0). putting_back of_read d.regs ws) after ∙ put_read ws c.sized.ensures t a.index
+    rw (c.read_entry-after.ensures, c.cop0_in.ensures, c.filled_with.ensures, c.entry_in-e.ensures, c.of.ensures, entry_at_lem a.tlb.now (a.index % 32) (omega arith)) in
+    ap (λ (d : Cop0). putting_back of_read d.regs ws) after ∙ put_read ws c.told-cop0 t a.index

@@ -11,13 +11,13 @@ overflow_sub-size c = omega (arith, c.page_size-size.ensures, page_ge c.low32.re
 pub returns-then-vaddr-size-eq0 : goal.returns-then-vaddr-size-eq0
 unfolding entry_answer half_of entry_in
 returns-then-vaddr-size-eq0 c =
-    let at = c.args.at in
-    let whole : 4 * (at / 4) ≡ at = omega (arith, c.requires.1) in
+    let at = c.args.place.at in
+    let whole : 4 * (at / 4) ≡ at = omega (arith, c.args.place.whole) in
     rw (whole, ← c.low32.ensures, ← c.page_size-size.ensures, eq-eqb _ _ c.if-vaddr-size-eq0.true) c.half.ensures
 
 pub returns : goal.returns
 unfolding entry_answer half_of entry_in
 returns c =
-    let at = c.args.at in
-    let whole : 4 * (at / 4) ≡ at = omega (arith, c.requires.1) in
+    let at = c.args.place.at in
+    let whole : 4 * (at / 4) ≡ at = omega (arith, c.args.place.whole) in
     rw (whole, ← c.low32.ensures, ← c.page_size-size.ensures, ne_eqb _ _ c.if-vaddr-size-eq0.false) c.half-2.ensures
