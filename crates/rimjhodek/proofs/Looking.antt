@@ -1,5 +1,5 @@
 -- A lookup in words, by what the scan found; and the lowest match, by asking one entry after another.
-use Rattle.std.proofs.Common.{ltb, cond, Some, None, is_some, ltb-true, ◌≡◌, ℕ, ◌+◌, ◌-◌, ◌%◌, ◌^◌, ◌<◌, ◌≤◌, Bool, true, false, List, [], ◌∷◌, get_or, drop, set, sym, refl, ap, ◌∙◌, ap₂, arith, lt-ltb, eq-eqb, ne_eqb, Result, Err}
+use Rattle.std.proofs.Common.{ltb, cond, Some, None, is_some, ltb-true, ◌≡◌, ℕ, ◌+◌, ◌-◌, ◌%◌, ◌^◌, ◌<◌, ◌≤◌, Bool, true, false, List, [], ◌∷◌, get_or, drop, set, sym, refl, ap, ◌∙◌, arith, lt-ltb, eq-eqb, ne_eqb, Result, Err}
 use Rattle.std.proofs.lemmas.Option.{cond_some}
 use Rattle.bits.specs.Field.{with_field_of}
 use Rattle.tlb.specs.declared.entries.TlbFault.TheVariants.{Refill}

@@ -1,5 +1,5 @@
 -- Exceptions in words: each step goes on from the words that the one before made.
-use Rattle.std.proofs.Common.{◌≡◌, ℕ, Bool, true, false, eqb, List, [], ◌∷◌, length, sym, refl, ◌∙◌, eq-eqb, ne_eqb}
+use Rattle.std.proofs.Common.{◌≡◌, ℕ, Bool, true, false, List, [], ◌∷◌, length, sym, ap, refl, ◌∙◌}
 use Rattle.bits.specs.Told.{answered}
 use Rattle.cop0.specs.declared.registers.Cop0.{Cop0}
 use Rattle.cop0.specs.Registers.{Status}
@@ -7,13 +7,15 @@ use Rattle.cop0.specs.File.{read_of, set_hardware_of}
 use Rattle.exception.specs.declared.kinds.Exception.{Exception}
 use Rattle.exception.specs.declared.kinds.Exception.TheVariants as refill
 use Rattle.exception.specs.declared.vectors.VectorKind.{VectorKind}
-use Rattle.exception.specs.declared.vectors.VectorKind.TheVariants.{General, TlbRefill, XtlbRefill, Reset}
+use Rattle.exception.specs.declared.vectors.VectorKind.TheVariants.{Reset}
 use Rattle.exception.specs.Kinds.{writes_bad_vaddr_of, vector_kind_of}
 use Rattle.exception.specs.Vectors.{kind_number, is_reset, vector_of}
 use Rattle.exception.specs.Epilogue.{recorded, addressed, handling}
 use Rattle.exception.specs.Taking.{dispatch_of}
 use Rattle.exception.specs.Taking as taking
-use Rattle.exception.proofs.Answers.{kind_one}
+use Rattle.exception.proofs.Answers.{kind_one, reset_tested}
+use Rattle.exception.specs.contracts.vectors.VectorKind.{the_type}
+use denote.Enum.Bare.{sameb}
 use Rattle.exception.proofs.Keeping.{recorded_by, addressed_by}
 use Rattle.rimjhodek.specs.Registers.{cop0_in, put_in}
 use Rattle.rimjhodek.specs.Exceptions.{dispatch_values, taken_of}
@@ -75,19 +77,9 @@ module _ (ws : List ℕ) (exc : Exception) (pc : ℕ) (slot : Bool) (bad : ℕ) 
     unfolding dispatch_of taking.taken_of
     unfaulted has ws₂ e₂ = rw (proper, has) (onto caused.holds handling ws₂ e₂)
 
--- NMI is known by its vector's number
-numbered : (k : VectorKind) → eqb (kind_number k) 3 ≡ is_reset k
-numbered General = refl
-numbered TlbRefill = refl
-numbered XtlbRefill = refl
-numbered Reset = refl
-
-module _ (n : ℕ) (k k' : VectorKind) (en : n ≡ kind_number k) (ek : kind_number k ≡ kind_number k') where
-  pub is_reset_lem : n ≡ 3 → is_reset k' ≡ true
-  is_reset_lem h = sym (numbered k') ∙ eq-eqb (kind_number k') 3 (sym (en ∙ ek) ∙ h)
-
-  pub not_reset : (n ≡ 3 → ⊥) → is_reset k' ≡ false
-  not_reset h = sym (numbered k') ∙ ne_eqb (kind_number k') 3 (λ q. h (en ∙ ek ∙ q))
+-- the test of the code, by the derived equality
+pub is_reset_lem : (k k' : VectorKind) (t b : Bool) → kind_number k ≡ kind_number k' → t ≡ sameb the_type k Reset → t ≡ b → is_reset k' ≡ b
+is_reset_lem k k' t b ek et eb = ap is_reset (sym (kind_one k k' ek)) ∙ reset_tested k ∙ sym et ∙ eb
 
 -- and a refill by its own, whatever it holds
 pub refill_proper : (store wide : Bool) → is_reset (vector_kind_of (refill.TlbRefill store wide)) ≡ false

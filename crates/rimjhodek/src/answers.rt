@@ -63,6 +63,7 @@ impl Number {
     }
 }
 
+// A function and no `From`: a number and a Result are both types of other crates.
 pub(crate) fn done_of(answer: Result<(), Refusal>) -> u8
     ensures { result ≡ (told_done answer).number }
 {
@@ -97,52 +98,58 @@ pub(crate) fn hit_in(tags: &[u32; 512], addr: u32, size: u32) -> bool
     tag_word::is_hit(tag_array::word_for(tags, addr, size), addr)
 }
 
-pub(crate) fn number_of(answer: Result<u64, Refusal>) -> Number
-    ensures { result ≡ number_of (told_value answer) }
-{
-    match answer {
-        Ok(value) => Number { refused: 0, value },
-        Err(refusal) => Number {
-            refused: refusal.number(),
-            ..Number::default()
-        },
+impl From<Result<u64, Refusal>> for Number {
+    ghost from_gives = { λ answer number. number ≡ number_of (told_value answer) };
+
+    fn from(answer: Result<u64, Refusal>) -> Number {
+        match answer {
+            Ok(value) => Number::of(value),
+            Err(refusal) => Number {
+                refused: refusal.number(),
+                ..Number::default()
+            },
+        }
     }
 }
 
-pub(crate) fn plan_of(answer: Result<cache::Plan, Refusal>) -> Plan
-    ensures { result ≡ plan_of (told_plan answer) }
-{
-    match answer {
-        Ok(cache::Plan::Hit) => Plan::default(),
-        Ok(cache::Plan::Fill) => Plan {
-            plan: 1,
-            ..Plan::default()
-        },
-        Ok(cache::Plan::Evict(addr)) => Plan {
-            refused: 0,
-            plan: 2,
-            addr,
-        },
-        Err(refusal) => Plan {
-            refused: refusal.number(),
-            ..Plan::default()
-        },
+impl From<Result<cache::Plan, Refusal>> for Plan {
+    ghost from_gives = { λ answer plan. plan ≡ plan_of (told_plan answer) };
+
+    fn from(answer: Result<cache::Plan, Refusal>) -> Plan {
+        match answer {
+            Ok(cache::Plan::Hit) => Plan::default(),
+            Ok(cache::Plan::Fill) => Plan {
+                plan: 1,
+                ..Plan::default()
+            },
+            Ok(cache::Plan::Evict(addr)) => Plan {
+                refused: 0,
+                plan: 2,
+                addr,
+            },
+            Err(refusal) => Plan {
+                refused: refusal.number(),
+                ..Plan::default()
+            },
+        }
     }
 }
 
-pub(crate) fn eviction_of(answer: Result<Option<u32>, Refusal>) -> Eviction
-    ensures { result ≡ eviction_of (told_writeback answer) }
-{
-    match answer {
-        Ok(None) => Eviction::default(),
-        Ok(Some(addr)) => Eviction {
-            refused: 0,
-            evict: true,
-            addr,
-        },
-        Err(refusal) => Eviction {
-            refused: refusal.number(),
-            ..Eviction::default()
-        },
+impl From<Result<Option<u32>, Refusal>> for Eviction {
+    ghost from_gives = { λ answer eviction. eviction ≡ eviction_of (told_writeback answer) };
+
+    fn from(answer: Result<Option<u32>, Refusal>) -> Eviction {
+        match answer {
+            Ok(None) => Eviction::default(),
+            Ok(Some(addr)) => Eviction {
+                refused: 0,
+                evict: true,
+                addr,
+            },
+            Err(refusal) => Eviction {
+                refused: refusal.number(),
+                ..Eviction::default()
+            },
+        }
     }
 }

@@ -57,10 +57,9 @@ pub extern "C" fn rimjhodek_dcache_miss_plan(lines: &[u8], tags: &[u32], addr: u
         × (result.«data» ≡ plan_bytes lines.now tags.now addr) }
 {
     let planned = dcache::miss_plan(lines, tags, addr);
-    let answer = planned.answer;
     let data = planned.data;
     DataPlan {
-        plan: answers::plan_of(answer),
+        plan: Plan::from(planned.answer),
         data,
     }
 }
@@ -84,7 +83,7 @@ pub extern "C" fn rimjhodek_dcache_install(
 pub extern "C" fn rimjhodek_dcache_read(lines: &[u8], addr: u32, len: usize) -> Number
     ensures { result ≡ number_of (read_told lines.now addr len) }
 {
-    answers::number_of(dcache::read(lines, addr, len))
+    Number::from(dcache::read(lines, addr, len))
 }
 
 #[unsafe(no_mangle)]
@@ -106,7 +105,7 @@ pub extern "C" fn rimjhodek_dcache_write(
 pub extern "C" fn rimjhodek_dcache_load_tag(tags: &[u32], addr: u32) -> Number
     ensures { result ≡ number_of (load_told 16 3 tags.now addr) }
 {
-    answers::number_of(dcache::load_tag(tags, addr))
+    Number::from(dcache::load_tag(tags, addr))
 }
 
 #[unsafe(no_mangle)]
@@ -129,10 +128,9 @@ pub extern "C" fn rimjhodek_dcache_flush_index(
         × (tags.new ≡ flush_tags lines.now tags.old addr invalidate clean) }
 {
     let flushed = dcache::flush_index(lines, tags, addr, invalidate, clean);
-    let answer = flushed.answer;
     let data = flushed.data;
     DataLine {
-        eviction: answers::eviction_of(answer),
+        eviction: Eviction::from(flushed.answer),
         data,
     }
 }
@@ -148,10 +146,9 @@ pub extern "C" fn rimjhodek_dcache_create_dirty_exclusive(
         × (tags.new ≡ create_tags lines.now tags.old addr) }
 {
     let created = dcache::create_dirty_exclusive(lines, tags, addr);
-    let answer = created.answer;
     let data = created.data;
     DataLine {
-        eviction: answers::eviction_of(answer),
+        eviction: Eviction::from(created.answer),
         data,
     }
 }
@@ -160,5 +157,5 @@ pub extern "C" fn rimjhodek_dcache_create_dirty_exclusive(
 pub extern "C" fn rimjhodek_dcache_resident_addr(tags: &[u32], index: usize) -> Number
     ensures { result ≡ number_of (resident_told tags.now (index % 512) (index % 512 * 16)) }
 {
-    answers::number_of(dcache::resident_addr(tags, index))
+    Number::from(dcache::resident_addr(tags, index))
 }

@@ -162,7 +162,7 @@ fn dispatch(
 {
     let kind = exception::vector_kind_of(exc);
     // NMI alone takes the Reset vector, and does nothing of what follows.
-    if kind_number(kind) == 3 {
+    if kind == VectorKind::Reset {
         return rimjhodek_nmi(cop0, pc);
     }
     let vector = exception::vector(read(cop0, Register::STATUS), kind);
@@ -249,6 +249,7 @@ fn kind_of(kind: u8) -> Option<VectorKind>
     }
 }
 
+// The numbers that cross are written out, so that they do not hang on the order of the cases.
 fn kind_number(kind: VectorKind) -> u64
     ensures { result ≡ kind_number kind }
 {

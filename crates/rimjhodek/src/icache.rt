@@ -46,7 +46,7 @@ pub extern "C" fn rimjhodek_icache_hit(tags: &[u32; 512], addr: u32) -> bool
 pub extern "C" fn rimjhodek_icache_read_word(lines: &[u8], addr: u32) -> Number
     ensures { result ≡ number_of (word_told lines.now addr) }
 {
-    answers::number_of(icache::read_word(lines, addr))
+    Number::from(icache::read_word(lines, addr))
 }
 
 #[unsafe(no_mangle)]
@@ -67,7 +67,7 @@ pub extern "C" fn rimjhodek_icache_install(
 pub extern "C" fn rimjhodek_icache_load_tag(tags: &[u32], addr: u32) -> Number
     ensures { result ≡ number_of (load_told 32 2 tags.now addr) }
 {
-    answers::number_of(icache::load_tag(tags, addr))
+    Number::from(icache::load_tag(tags, addr))
 }
 
 #[unsafe(no_mangle)]
@@ -101,10 +101,9 @@ pub extern "C" fn rimjhodek_icache_flush_hit(
         × (result.«data» ≡ flush_bytes lines.now tags.now addr) }
 {
     let flushed = icache::flush_hit(lines, tags, addr);
-    let answer = flushed.answer;
     let data = flushed.data;
     InstructionLine {
-        eviction: answers::eviction_of(answer),
+        eviction: Eviction::from(flushed.answer),
         data,
     }
 }
@@ -113,5 +112,5 @@ pub extern "C" fn rimjhodek_icache_flush_hit(
 pub extern "C" fn rimjhodek_icache_resident_addr(tags: &[u32], index: usize) -> Number
     ensures { result ≡ number_of (resident_told tags.now (index % 512) (index % 512 * 32)) }
 {
-    answers::number_of(icache::resident_addr(tags, index))
+    Number::from(icache::resident_addr(tags, index))
 }

@@ -123,6 +123,7 @@ fn mode_in(mode: u8) -> Option<Mode>
     }
 }
 
+// The numbers that cross are written out, so that they do not hang on the order of the cases.
 fn number_of(mode: Mode) -> u8
     ensures { result ≡ mode_number mode }
 {
@@ -136,8 +137,5 @@ fn number_of(mode: Mode) -> u8
 pub(crate) fn is_cached(cached: Cached) -> bool
     ensures { result ≡ is_cached cached }
 {
-    match cached {
-        Cached::Yes => true,
-        Cached::No => false,
-    }
+    cached == Cached::Yes
 }
