@@ -52,7 +52,7 @@ advance_undone (Err r) = ap Err (refusal_undone r)
 pub advance_one : (a a' : Result Bool Refusal) → told_advance a ≡ told_advance a' → a ≡ a'
 advance_one = one_to_one told_advance (λ (t : Told). advance_at t.number t.values) advance_undone
 
--- what crossed as n: an edge or none, or the refusal
+-- what is told as the number n: an edge or none, or the refusal
 abbrev told_at : ℕ → Told
 told_at n = cond (ltb n 2) (answered (n ∷ [])) (refused n)
 
@@ -61,7 +61,7 @@ code_undone true true = refl
 code_undone true false = refl
 code_undone false edge = refl
 
--- 0, 1 and 5: an advance is known by the number by which its answer crosses
+-- 0, 1 and 5: an advance is known by one number
 pub advance_code_one : (c c' : Cop0) (n n' m m' : ℕ) → advance_code c n m ≡ advance_code c' n' m'
     → advance_told c n m ≡ advance_told c' n' m'
 unfolding advance_told
