@@ -34,7 +34,7 @@ impl Access {
         }
     }
 
-    // The access that Status asks for. The manual gives KSU 3 no mode.
+    // The access that Status asks for, by the scope's own name for it. The manual gives KSU 3 no mode.
     #[tactic(auto, unfolding(crate::specs::Access::access_of))]
     pub fn from_status(status: u64) -> Result<Access, Refusal>
         ensures { told_access result ≡ access_of status }

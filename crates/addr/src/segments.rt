@@ -6,7 +6,7 @@ ghost use Rattle.addr.specs.Answers.{told_segment};
 use crate::access::{Access, Mode};
 
 // Whether an access goes through the caches. The segment decides it, and it cannot be told from a physical address later:
-// KSEG0 and KSEG1 have both become the same number.
+// KSEG0 and KSEG1 have both become the same number. An enum and no flag, as the scope has it in a direct segment.
 #[derive(Clone, Copy, PartialEq, Eq)]
 pub enum Cached {
     Yes,

@@ -11,7 +11,8 @@ use tlb::{Tlb, TlbFault, Translated};
 pub struct Physical {
     pub addr: u32,
     pub cached: Cached,
-    // The number of the TLB's entry that gave it, or 32 where none was asked.
+    // The number of the TLB's entry that gave it, or 32 where none was asked, the number of an empty slot
+    // (`WhichEntry.direct_has_32`).
     pub entry: u8,
 }
 
@@ -52,6 +53,7 @@ pub fn translate_via(tlb: Tlb, vaddr: u64, asid: u8, store: bool, access: Access
         Segment::Mapped => {
             let looked = tlb.lookup(vaddr, asid, store);
             let after = looked.tlb;
+            // By `let .. else`, the form that the scope gives this place.
             let Ok(found) = looked.answer else {
                 return Translation {
                     answer: Err(TranslateError::Tlb(looked.answer.unwrap_err())),
@@ -66,7 +68,8 @@ pub fn translate_via(tlb: Tlb, vaddr: u64, asid: u8, store: bool, access: Access
     }
 }
 
-// An address that an entry gave. Its C field decides whether a mapped page is cached.
+// An address that an entry gave. Its C field decides whether a mapped page is cached. A function and no `From`, by the name of its
+// definition.
 fn by_entry(found: Translated) -> Physical
     ensures { result ≡ by_entry found }
 {

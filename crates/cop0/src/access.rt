@@ -56,7 +56,7 @@ pub enum Cop0Op {
 
 impl Cop0Op {
     // The access form that the rs field of a COP0 instruction names. The TLB instructions and ERET, which have bit 4 set,
-    // are no access forms.
+    // are no access forms. The name is the original's.
     #[tactic(auto, unfolding(crate::specs::Access::from_rs_of, crate::specs::Registers::among))]
     pub fn from_rs(rs: u8) -> Result<Cop0Op, Refusal>
         ensures { told_from_rs result ≡ from_rs_of rs }

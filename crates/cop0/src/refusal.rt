@@ -12,7 +12,7 @@ pub enum Refusal {
 }
 
 impl Refusal {
-    // Its number, by which other languages and traces know it.
+    // Its number, by which other languages and traces know it: the scope's, written out, since it is no order of the cases.
     pub fn number(self) -> u8
         ensures { result ≡ refusal_number self }
     {

@@ -9,7 +9,8 @@ use crate::{epilogue, kinds, vectors};
 use cop0::Cop0;
 
 // Takes an exception (figure 6-14): records its cause and, where it has one, its faulting address, sets EXL, and tells where
-// to fetch next. `pc` is the address of the instruction that faulted.
+// to fetch next. `pc` is the address of the instruction that faulted. Where it faulted is told one by one, here and above, as in the
+// original and in the exports.
 #[tactic(auto, using(crate::proofs::Answers::kind_one, crate::proofs::Answers::reset_tested), unfolding(crate::specs::Taking::dispatch_of, crate::specs::Taking::taken_of))]
 pub fn dispatch(
     cop0: Cop0,

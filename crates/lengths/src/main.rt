@@ -34,8 +34,8 @@ fn tried<
     run(rt, &mut lines, &mut [1; 513])
 }
 
-// The operations that are lent both parts, and then those that are lent the part with the wrong length alone. One of them has
-// it.
+// The operations that are lent both parts, and then those that are lent one alone, which is the part of the wrong length. The two
+// caches have other operations: a trait for those that they share would be longer than both.
 fn data(rt: &HostRuntime, lines: &mut [u8], tags: &mut [u32]) -> io::Result<()> {
     data_filled(rt, lines, tags)?;
     data_changed(rt, lines, tags)?;

@@ -1,4 +1,5 @@
-// Lent bytes: cleared, copied, and read and written as numbers, the highest byte first.
+// Lent bytes: cleared, copied, and read and written as numbers, the highest byte first. A place stands beside the bytes, and
+// they are not cut there, since a place past their end is no mistake here.
 ghost use Rattle.std.specs.Prelude.{◌≡◌, ◌+◌, ◌*◌, ◌^◌, ◌<◌, ◌≤◌, [], ◌∷◌, leb, length, replicate};
 ghost use Rattle.lines.specs.Bytes.{big_endian, eight, copied, line_if, number_at, number_put};
 
@@ -18,7 +19,7 @@ pub fn copy(lines: &mut [u8], at: usize, bytes: &[u8])
     }
 }
 
-// A line, if it is asked for; zeros if not.
+// A line, if it is asked for; zeros if not, as `line_if` has it.
 #[tactic(auto, unfolding(crate::specs::Bytes::line_if))]
 pub fn line<const N: usize>(lines: &[u8], at: usize, asked: bool) -> [u8; N]
     ensures { result ≡ line_if N asked lines.now at }

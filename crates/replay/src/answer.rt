@@ -9,7 +9,8 @@ use std::io::Write;
 use std::{fmt, io};
 use tlb::Entry;
 
-// A value as it is written: a number of 16 digits, a flag, a decimal number, or the bytes of a line.
+// A value as it is written: a number of 16 digits, a flag, a decimal number, or the bytes of a line. No `Display`: hexadecimal
+// digits are made by `digits`, whose contract says which they are, and the library's formatting promises none.
 #[derive(Clone, Copy)]
 pub(crate) enum Value {
     Number(u64),

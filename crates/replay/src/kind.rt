@@ -1,5 +1,6 @@
-// What the numbers of a line stand for. It doesn't matter what one over its limit stands for: its line is turned away. These are
-// functions and no `From`, since a number and what it stands for are both types of other crates.
+// What the numbers of a line stand for. It doesn't matter what one over its limit stands for: its line is turned away. These
+// are functions and no `From`, since a number and what it stands for are both types of other crates; and the numbers are a
+// trace's own, though the exports have the same.
 use crate::operand::{byte, flag};
 use addr::{Access, Mode};
 use exception::{Exception, VectorKind};

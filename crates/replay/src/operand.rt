@@ -4,7 +4,8 @@ use crate::words::Words;
 // The most operands that an operation takes.
 pub const MOST: usize = 6;
 
-// How many operands there are, and their numbers, if all are numbers. One past the most has no place, and 0 stands where none is.
+// How many operands there are, and their numbers, if all are numbers. One past the most has no place, and 0 stands where none is:
+// an array and a count, since nothing allocates and a line may have more words than an operation has operands.
 #[derive(Clone, Copy)]
 pub(crate) struct Operands {
     pub count: usize,

@@ -27,7 +27,7 @@ pub enum Part {
 }
 
 impl Part {
-    // The part of a letter of the table.
+    // The part of a letter of the table. An Option and no `TryFrom`, whose error could say nothing but the letter.
     fn from_letter(letter: u8) -> Option<Part> {
         match letter {
             b's' => Some(Part::Session),
@@ -78,7 +78,8 @@ impl<'t> Row<'t> {
     }
 }
 
-// The greatest number that an operand of a letter may be, on a line whose first operand is `exc`.
+// The greatest number that an operand of a letter of the table may be (`Request.greatest_of`), on a line whose first operand is
+// `exc`.
 pub(crate) fn greatest(letter: u8, exc: u64) -> u64
     ensures { result ≡ greatest_of exc letter }
 {

@@ -62,7 +62,8 @@ impl From<TranslateError> for Told {
     }
 }
 
-// Each crate below has a refusal of its own, with a number; they share no trait.
+// Each crate below has a refusal of its own, with a number. A trait over them would not do: an `impl` by it would overlap with
+// the others.
 impl From<cop0::Refusal> for Told {
     fn from(refusal: cop0::Refusal) -> Told {
         Told::Refused(refusal.number())

@@ -1,4 +1,4 @@
-// The caches' answers as they cross: the number of the refusal, or 0, and then the answer's values, each 0 where there is none.
+// Answers as they cross: the number of the refusal, or 0, and then the answer's values, each 0 where there is none.
 ghost use Rattle.std.specs.Prelude.{◌≡◌, [], ◌∷◌};
 ghost use Rattle.bits.specs.Told.{answered, refused};
 ghost use Rattle.cache.specs.Answers.{told_done, told_value, told_plan, told_writeback};

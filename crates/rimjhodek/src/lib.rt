@@ -1,5 +1,6 @@
-// What other languages link: each operation over state that the caller owns and lends as plain words. C reads the answers, so that
-// numbers and flags stand in them for enums and Options.
+// What other languages link: each operation over state that the caller owns and lends as plain words. C reads the answers, so
+// that numbers and flags stand in them for enums and Options. What the crates below do with a record is done here on words,
+// since a record made of them costs more than the operation.
 #![tactic(auto)]
 
 mod answers;

@@ -11,7 +11,7 @@ ghost use Rattle.rimjhodek.specs.Registers.{cop0_in, put_in, cop0_words, is_spec
 
 use crate::answers::Number;
 use crate::register::Register;
-use cop0::Cop0;
+use cop0::{Cop0, Refusal};
 
 impl Register {
     // Does it read something else than its own bits under a mask? One test on the common way.
@@ -248,25 +248,13 @@ pub extern "C" fn rimjhodek_from_rs(rs: u32) -> Number
     ensures { result ≡ form_of (from_rs_of rs) }
 {
     match rs {
-        0 => Number {
-            refused: 0,
-            value: 0,
-        },
-        1 => Number {
-            refused: 0,
-            value: 1,
-        },
-        4 => Number {
-            refused: 0,
-            value: 2,
-        },
-        5 => Number {
-            refused: 0,
-            value: 3,
-        },
+        0 => Number::of(0),
+        1 => Number::of(1),
+        4 => Number::of(2),
+        5 => Number::of(3),
         _ => Number {
-            refused: 6,
-            value: 0,
+            refused: Refusal::Form.number(),
+            ..Number::default()
         },
     }
 }

@@ -74,7 +74,7 @@ fn is_useg(erl: bool, vaddr: u64) -> bool
     vaddr <= 0x7FFF_FFFF
 }
 
-// Does an address lie in KSEG0, which is cached (5.2.4)? Apart from KSEG1: asked as one range, each costs one to three instructions more.
+// Does an address lie in KSEG0, which is cached (5.2.4)? Apart from KSEG1: one function of both would be no shorter.
 fn is_kseg0(vaddr: u64) -> bool
     ensures { result ≡ is_kseg0 vaddr }
 {

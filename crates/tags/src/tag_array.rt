@@ -1,4 +1,5 @@
-// The lent array of tag words: the word of a line and its replacement, over the size of a line.
+// The lent array of tag words: the word of a line and its replacement, over the size of a line. The size is an argument and no const
+// parameter: each function answers for every size, 0 among them.
 ghost use Rattle.std.specs.Prelude.{◌≡◌, length, replicate};
 ghost use Rattle.tags.specs.Places.{tagged, index_of, start_of, word_at, word_for, tags_with};
 

@@ -59,9 +59,8 @@ impl Tlb {
     fn slot_hits(self, slot: u8, vaddr: u64, asid: u8) -> bool
         ensures { result ≡ slot_hits self slot vaddr asid }
     {
-        match self.entries.get(slot as usize) {
-            Some(entry) => entry.matches(vaddr, asid),
-            None => false,
-        }
+        self.entries
+            .get(slot as usize)
+            .is_some_and(|entry| entry.matches(vaddr, asid))
     }
 }

@@ -10,7 +10,7 @@ use crate::entries::{Entry, PageEntry, TlbFault, Translated};
 pub struct Tlb {
     pub entries: [Entry; 32],
     // The micro-TLB: two entry numbers, 32 for an empty slot. Numbers and no copies, so that it cannot serve an entry that
-    // was written since; no Options, as hosts save the record as words (`specs/Micro.antt`).
+    // was written since; no Options: `Micro.slot_hits` and `Sound` speak of the numbers, and hosts lend them.
     pub itlb: [u8; 2],
     // The slot that the next fill takes, a number as in those words: the one not used last (1.5.1).
     pub itlb_lru: u8,
@@ -87,8 +87,8 @@ impl Tlb {
         (mask as u64 | 0x1FFF) + 1
     }
 
-    // Where an address leads. Two entries that match shut the TLB down for good, and a TLB that is shut down finds nothing. An access is
-    // told by its address, ASID and direction one by one, here and above, as in the Rust original and in the exports.
+    // Where an address leads. Two entries that match shut the TLB down for good, and a TLB that is shut down finds nothing. An
+    // access is told by its address, ASID and direction one by one, here and above, as in the Rust original and in the exports.
     #[tactic(auto, using(crate::proofs::Looking::one_below))]
     pub fn lookup(mut self, vaddr: u64, asid: u8, store: bool) -> Looked
         ensures { (told_lookup result.answer ≡ told_lookup (lookup_answer self vaddr asid store))
