@@ -41,9 +41,6 @@ pub mode_named : (n : ℕ) (m : Mode) → slice_get modes n ≡ Some m → (is_m
 unfolding mode_in
 mode_named n m = named modes n m User
 
-pub mode_unnamed : (n : ℕ) → slice_get modes n ≡ None → is_mode n ≡ false
-mode_unnamed = unnamed modes
-
 pub cond_none : {A : Type 0} (b : Bool) (x : A) → cond b (Some x) None ≡ None → b ≡ false
 cond_none false x e = refl
 cond_none true x e = absurd (none-some x (sym e))
