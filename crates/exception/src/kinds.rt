@@ -41,14 +41,18 @@ pub enum Exception {
 }
 
 // The ExcCode that an exception reports. Refill and Invalid share theirs: the handler knows them by the vector that it was
-// entered through. NMI writes no code, and has Int's only so that every exception has one.
+// entered through. NMI writes no code, and has Int's only so that every exception has one. A pattern for each value of
+// `store` would cost a refill seven instructions more, and miss its goal.
 pub fn exc_code_of(exc: Exception) -> u64
     ensures { result ≡ exc_code_of exc }
 {
     match exc {
         Exception::Interrupt => exc_code::INT,
-        Exception::AddressError { store: true } => exc_code::ADES,
-        Exception::AddressError { store: false } => exc_code::ADEL,
+        Exception::AddressError { store } => if store {
+            exc_code::ADES
+        } else {
+            exc_code::ADEL
+        },
         Exception::Overflow => exc_code::OV,
         Exception::Syscall => exc_code::SYS,
         Exception::Breakpoint => exc_code::BP,
@@ -56,10 +60,11 @@ pub fn exc_code_of(exc: Exception) -> u64
         Exception::ReservedInstruction | Exception::CoprocessorReserved { .. } => exc_code::RI,
         Exception::CoprocessorUnusable { .. } => exc_code::CPU,
         Exception::Nmi => exc_code::INT,
-        Exception::TlbRefill { store: true, .. } | Exception::TlbInvalid { store: true } =>
-            exc_code::TLBS,
-        Exception::TlbRefill { store: false, .. } | Exception::TlbInvalid { store: false } =>
-            exc_code::TLBL,
+        Exception::TlbRefill { store, .. } | Exception::TlbInvalid { store } => if store {
+            exc_code::TLBS
+        } else {
+            exc_code::TLBL
+        },
         Exception::TlbModified => exc_code::MOD,
         Exception::FloatingPoint => exc_code::FPE,
     }
