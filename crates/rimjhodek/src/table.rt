@@ -119,7 +119,7 @@ pub(crate) fn look(vaddr: u64, asid: u8, store: bool, tlb: &mut [u64; 132]) -> L
 
 // Where the one entry that matches begins: four words to its number. 128 where there is none, and 256 where there are more. Places
 // are held and no numbers, so that no second count goes along. An enum of the three costs a lookup 17 instructions
-// more, 0.78 of the original's where 0.75 is the goal. Eight entries
+// more, 0.77 of the original's where 0.75 is the goal. Eight entries
 // are asked a turn, since to turn costs half as much as to ask one.
 fn scan(tlb: &[u64; 132], vaddr: u64, asid: u8) -> usize
     ensures { result ≡ 4 * only_of (matching (entries_in tlb.now) vaddr asid 0) }

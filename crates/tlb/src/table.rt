@@ -12,7 +12,7 @@ pub struct Tlb {
     // The micro-TLB: two entry numbers, 32 for an empty slot. Numbers and no copies, so that it cannot serve an entry that
     // was written since; no Options: `Micro.slot_hits` and `Sound` speak of the numbers, and hosts lend them.
     pub itlb: [u8; 2],
-    // The slot that the next fill takes, a number as in those words: the one not used last (1.5.1).
+    // The slot that the next fill takes, a number since hosts lend it: the one not used last (1.5.1).
     pub itlb_lru: u8,
     // Two entries matched: the TLB is unusable until reset (5.1).
     pub shutdown: bool,
