@@ -86,7 +86,7 @@ pub(crate) fn hits_in(tags: &[u32], addr: u32, size: u32) -> Flag
         };
     }
     Flag {
-        refused: 1,
+        refused: Refusal::Lent.number(),
         ..Flag::default()
     }
 }

@@ -8,6 +8,7 @@ ghost use Rattle.rimjhodek.specs.Registers.{cop0_in, put_in, comes_to_compare};
 use crate::answers::Flag;
 use crate::words::cop0_in;
 use crate::{interrupts, registers};
+use cop0::Refusal;
 
 #[unsafe(no_mangle)]
 pub extern "C" fn rimjhodek_count(cop0: &[u64; 38]) -> u32
@@ -65,7 +66,7 @@ pub extern "C" fn rimjhodek_advance(cop0: &mut [u64; 38], counts: u64, steps: u6
 {
     if counts >= 0x1_0000_0000 {
         return Flag {
-            refused: 5,
+            refused: Refusal::Counts.number(),
             ..Flag::default()
         };
     }
