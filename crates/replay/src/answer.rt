@@ -5,8 +5,8 @@ use crate::output::Output;
 use crate::request::Fault;
 use crate::told::{Line, Told};
 use addr::Access;
+use std::io;
 use std::io::Write;
-use std::{fmt, io};
 use tlb::Entry;
 
 // A value as it is written: a number of 16 digits, a flag, a decimal number, or the bytes of a line. No `Display`: hexadecimal
@@ -54,20 +54,16 @@ pub fn write(out: &mut Output, told: Told) -> io::Result<()> {
     }
 }
 
-impl fmt::Display for Fault {
-    fn fmt<W: fmt::Write>(&self, f: &mut fmt::Formatter<W>) -> fmt::Result {
-        f.write_str(match *self {
-            Fault::UnknownOperation => "unknown operation",
-            Fault::OperandCount => "wrong number of operands",
-            Fault::BadNumber => "bad number",
-            Fault::OutOfRange => "out of range",
-        })
-    }
-}
-
-// What is wrong with a line: the last line of a run.
+// What is wrong with a line: the last line of a run. No `Display` of a fault: a formatter writes in pieces of its own, and each piece
+// may go into another write.
 pub fn write_fault(out: &mut Output, number: u64, fault: Fault) -> io::Result<()> {
-    writeln!(out, "line {number}: {fault}")
+    write!(out, "line {number}")?;
+    match fault {
+        Fault::UnknownOperation => out.write_all(b": unknown operation\n"),
+        Fault::OperandCount => out.write_all(b": wrong number of operands\n"),
+        Fault::BadNumber => out.write_all(b": bad number\n"),
+        Fault::OutOfRange => out.write_all(b": out of range\n"),
+    }
 }
 
 // An entry, with its number before it.
@@ -137,9 +133,11 @@ fn put_value(out: &mut Output, value: Value) -> io::Result<()> {
     }
 }
 
+// The bytes of a line, in words of 8: a word is one piece, since a piece costs more than its digits.
 fn put_bytes(out: &mut Output, bytes: &[u8]) -> io::Result<()> {
-    for byte in bytes {
-        put_digits(out, *byte as u64, 2)?;
+    let (words, _) = bytes.as_chunks::<8>();
+    for word in words {
+        put_digits(out, u64::from_be_bytes(*word), 16)?;
     }
     Ok(())
 }

@@ -1,7 +1,7 @@
 // Plays traces of a session's operations and of the caches' and writes an answer to each operation (docs/TRACE.md says what a
 // trace is).
 //
-// From bytes to an answer: `input` reads a trace whole, `run` goes through it line by line, `request` says what a line asks, by
+// From bytes to an answer: `input` reads a trace whole, `run` goes through it `line` by line, `request` says what a line asks, by
 // its `words` and the table of `operations`, `kind` what its numbers stand for, and a `Player` plays it: a session's operations run
 // through `session::Session::step` (`session_step`), others ask or write the session's registers (`register_step`). The caches' are
 // in `caches`, `dcache_step` and `icache_step`. What is `told` becomes text in `answer`, and an `Output` holds the text until there
@@ -15,6 +15,7 @@ mod dcache_step;
 mod icache_step;
 mod input;
 mod kind;
+mod line;
 mod operand;
 mod operations;
 mod output;

@@ -1,6 +1,7 @@
 // Text on its way to standard output, held until there is much to write. The memory is fixed: a `BufWriter` takes its own from
 // the heap.
-ghost use Rattle.std.specs.Prelude.{◌≤◌};
+ghost use Rattle.std.specs.Prelude.{◌≡◌, ◌+◌, ◌≤◌, length};
+ghost use Rattle.std.proofs.Math.Seq.{paste};
 
 use std::io;
 use std::io::Write;
@@ -25,6 +26,17 @@ impl<'a> Output<'a> {
             used: 0,
         }
     }
+
+    // Puts bytes right after those that are held. All else stays as it was.
+    fn hold(&mut self, bytes: &[u8])
+        requires { self.old.used + length bytes.now ≤ 65536 }
+        ensures text { self.new.text ≡ paste self.old.text self.old.used bytes.now (length bytes.now) }
+        ensures used { self.new.used ≡ self.old.used + length bytes.now }
+    {
+        let end = self.used + bytes.len();
+        self.text[self.used..end].copy_from_slice(bytes);
+        self.used = end;
+    }
 }
 
 impl Write for Output<'_> {
@@ -41,9 +53,7 @@ impl Write for Output<'_> {
         if SIZE - self.used < bytes.len() {
             return self.rt.write_all(bytes);
         }
-        let end = self.used + bytes.len();
-        self.text[self.used..end].copy_from_slice(bytes);
-        self.used = end;
+        self.hold(bytes);
         Ok(())
     }
 

@@ -2,6 +2,7 @@
 ghost use Rattle.std.specs.Prelude.{◌≡◌};
 ghost use Rattle.replay.specs.Request.{greatest_of, greatest_a_of, greatest_b_of};
 
+use crate::line::{Lines, without_end};
 use crate::words::Words;
 
 // The parts of the program that play operations.
@@ -56,9 +57,7 @@ pub(crate) struct Row<'t> {
 impl<'t> Row<'t> {
     // The row of a name, if the table has one.
     pub(crate) fn of(table: &'t [u8], name: &[u8]) -> Option<Row<'t>> {
-        table
-            .split(|b| *b == b'\n')
-            .find_map(|line| Row::named(line, name))
+        Lines(table).find_map(|line| Row::named(without_end(line), name))
     }
 
     // The row on a line of the table, if it is the name's.

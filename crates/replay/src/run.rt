@@ -1,7 +1,6 @@
 // A whole trace, from a fresh start to its end or its first fault.
-ghost use Rattle.std.specs.Prelude.{◌≤◌, length};
-
 use crate::caches::{DataCache, InstructionCache};
+use crate::line::{Lines, without_end};
 use crate::output::Output;
 use crate::request::{Call, read};
 use crate::row::Part;
@@ -12,13 +11,13 @@ use session::Session;
 use std::io;
 use std::io::Write;
 
-// A trace. A last line that no `\n` ends counts; nothing after the last `\n` is no line.
+// A trace, line by line.
 pub fn play(text: &[u8], out: &mut Output) -> io::Result<()> {
     if input::LIMIT < text.len() {
         return out.write_all(b"trace too long\n");
     }
     let mut player = Player::new();
-    for (number, line) in (1u64..).zip(text.split_inclusive(|b| *b == b'\n')) {
+    for (number, line) in (1u64..).zip(Lines(text)) {
         match read(without_end(line)) {
             Ok(None) => {}
             Ok(Some(call)) => player.play(call, out)?,
@@ -26,18 +25,6 @@ pub fn play(text: &[u8], out: &mut Output) -> io::Result<()> {
         }
     }
     Ok(())
-}
-
-// A line without its `\n` and without the one `\r` that may stand right before that. A line that the text's end cuts off has no
-// `\n`.
-fn without_end(line: &[u8]) -> &[u8]
-    ensures { length result.now ≤ length line.now }
-{
-    match line {
-        [words @ .., b'\r', b'\n'] => words,
-        [words @ .., b'\n'] => words,
-        _ => line,
-    }
 }
 
 // What plays a trace: a session and both caches.
