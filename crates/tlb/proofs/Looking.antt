@@ -74,7 +74,7 @@ module _ (t : Tlb) (v asid : ℕ) (store : Bool) where
         go (i ∷ j ∷ is) e = (refl, refl)
 
 -- the lowest match, as the scan gave it
-module _ (t : Tlb) (len : length t.entries ≡ 32) (v asid : ℕ) (h : Hits) (scanned : h ≡ hits_of (matching t.entries v asid 0)) where
+module _ (t : Tlb) (v asid : ℕ) (h : Hits) (scanned : h ≡ hits_of (matching t.entries v asid 0)) where
   pub lowest_is : (i : ℕ) → Some i ≡ first_of h → lowest t v asid ≡ i
   unfolding lowest
   lowest_is i e = go (matching t.entries v asid 0) (e ∙ ap first_of scanned)
@@ -83,15 +83,6 @@ module _ (t : Tlb) (len : length t.entries ≡ 32) (v asid : ℕ) (h : Hits) (sc
       go [] e = cc
       go (j ∷ []) e = cc
       go (j ∷ k ∷ ks) e = cc
-
-  pub first_below : (i : ℕ) → Some i ≡ first_of h → i < 32
-  first_below i e = go (matching t.entries v asid 0) refl (e ∙ ap first_of scanned)
-    where
-      go : (l : List ℕ) → matching t.entries v asid 0 ≡ l → Some i ≡ first_of (hits_of l) → i < 32
-      go [] q e = cc
-      go (j ∷ js) q e =
-          let same : j ≡ i = first_head j js e in
-          omega (arith, below t.entries v asid 0 j js q)
 
   pub lowest_is_32 : None ≡ first_of h → lowest t v asid ≡ 32
   unfolding lowest
@@ -102,11 +93,21 @@ module _ (t : Tlb) (len : length t.entries ≡ 32) (v asid : ℕ) (h : Hits) (sc
       go (j ∷ []) e = cc
       go (j ∷ k ∷ ks) e = cc
 
-  pub has_some : is_some (first_of h) ≡ ltb (lowest t v asid) 32
-  unfolding lowest
-  has_some = rw scanned (go (matching t.entries v asid 0) refl)
-    where
-      go : (l : List ℕ) → matching t.entries v asid 0 ≡ l → is_some (first_of (hits_of l)) ≡ ltb (head_of l) 32
-      go [] q = refl
-      go (j ∷ []) q = let b : j < 32 = omega (arith, below t.entries v asid 0 j [] q) in sym (lt-ltb j 32 b)
-      go (j ∷ k ∷ ks) q = let b : j < 32 = omega (arith, below t.entries v asid 0 j (k ∷ ks) q) in sym (lt-ltb j 32 b)
+  module _ (len : length t.entries ≡ 32) where
+    pub first_below : (i : ℕ) → Some i ≡ first_of h → i < 32
+    first_below i e = go (matching t.entries v asid 0) refl (e ∙ ap first_of scanned)
+      where
+        go : (l : List ℕ) → matching t.entries v asid 0 ≡ l → Some i ≡ first_of (hits_of l) → i < 32
+        go [] q e = cc
+        go (j ∷ js) q e =
+            let same : j ≡ i = first_head j js e in
+            omega (arith, below t.entries v asid 0 j js q)
+
+    pub has_some : is_some (first_of h) ≡ ltb (lowest t v asid) 32
+    unfolding lowest
+    has_some = rw scanned (go (matching t.entries v asid 0) refl)
+      where
+        go : (l : List ℕ) → matching t.entries v asid 0 ≡ l → is_some (first_of (hits_of l)) ≡ ltb (head_of l) 32
+        go [] q = refl
+        go (j ∷ []) q = let b : j < 32 = omega (arith, below t.entries v asid 0 j [] q) in sym (lt-ltb j 32 b)
+        go (j ∷ k ∷ ks) q = let b : j < 32 = omega (arith, below t.entries v asid 0 j (k ∷ ks) q) in sym (lt-ltb j 32 b)
