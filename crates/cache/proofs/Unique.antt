@@ -12,7 +12,9 @@ use Rattle.cache.specs.declared.answers.Plan.{Plan}
 use Rattle.cache.specs.declared.answers.MissPlan.{MissPlan}
 use Rattle.cache.specs.declared.answers.Writeback.{Writeback}
 use Rattle.cache.proofs.OneToOne.{done_one, asked_one, value_one, plan_one, writeback_one}
+use Rattle.lines.specs.declared.access.Refusal as lines
 use Rattle.cache.proofs.answers.Refusal.number.Reads as number
+use Rattle.cache.proofs.answers.RefusalFromAccessRefusal.from.Reads as refusal_from
 use Rattle.cache.specs.contracts.dcache.new as data_new
 use Rattle.cache.proofs.dcache.new.Reads as data_new_reads
 use Rattle.cache.specs.contracts.dcache.hits as data_hits
@@ -64,6 +66,9 @@ written a d = record { answer = a; «data» = d }
 
 pub number_unique : (a : Refusal × Unit {0}) (r r' : ℕ) → number.Post tt a r a → number.Post tt a r' a → r ≡ r'
 number_unique a r r' = same
+
+pub refusal_from_unique : (a : lines.Refusal × Unit {0}) (r r' : Refusal) → refusal_from.Post tt a r a → refusal_from.Post tt a r' a → r ≡ r'
+refusal_from_unique a r r' = same
 
 pub data_new_unique : (κs : Lifetimes.Lfts 2) (a : World.ArgsD data_new.signature κs) (r r' : Result (Unit {0}) Refusal) (s s' : _)
     → data_new_reads.Post κs a r s → data_new_reads.Post κs a r' s' → (r ≡ r') × (s.0.now ≡ s'.0.now) × (s.1.0.now ≡ s'.1.0.now)
