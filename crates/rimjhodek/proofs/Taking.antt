@@ -77,9 +77,13 @@ module _ (ws : List ℕ) (exc : Exception) (pc : ℕ) (slot : Bool) (bad : ℕ) 
     unfolding dispatch_of taking.taken_of
     unfaulted has ws₂ e₂ = rw (proper, has) (onto caused.holds handling ws₂ e₂)
 
+-- an NMI alone takes the vector of number 3
+pub is_reset_lem : (n : ℕ) (k k' : VectorKind) → n ≡ kind_number k → kind_number k ≡ kind_number k' → n ≡ 3 → is_reset k' ≡ true
+is_reset_lem n k k' en ek e = ap is_reset (kind_one k' Reset (sym ek ∙ sym en ∙ e))
+
 -- the test of the code, by the derived equality
-pub is_reset_lem : (k k' : VectorKind) (t b : Bool) → kind_number k ≡ kind_number k' → t ≡ sameb the_type k Reset → t ≡ b → is_reset k' ≡ b
-is_reset_lem k k' t b ek et eb = ap is_reset (sym (kind_one k k' ek)) ∙ reset_tested k ∙ sym et ∙ eb
+pub reset_asked : (k k' : VectorKind) (t b : Bool) → kind_number k ≡ kind_number k' → t ≡ sameb the_type k Reset → t ≡ b → is_reset k' ≡ b
+reset_asked k k' t b ek et eb = ap is_reset (sym (kind_one k k' ek)) ∙ reset_tested k ∙ sym et ∙ eb
 
 -- and a refill by its own, whatever it holds
 pub refill_proper : (store wide : Bool) → is_reset (vector_kind_of (refill.TlbRefill store wide)) ≡ false

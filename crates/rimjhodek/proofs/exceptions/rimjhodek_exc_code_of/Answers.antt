@@ -1,9 +1,9 @@
 -- Of what the number names.
-use Rattle.std.proofs.Common.{sym, ◌∙◌}
+use Rattle.std.proofs.Common.{sym, ◌∙◌, rules}
 use Rattle.rimjhodek.proofs.Naming.{exception_named}
 use Rattle.rimjhodek.proofs.exceptions.rimjhodek_exc_code_of.Goals as goal
 
 pub returns-in-Some : goal.returns-in-Some
 returns-in-Some c =
     let w = exception_named c.args.exc _ (sym c.exception_of.ensures ∙ c.in-Some.is) in
-    rw (c.of.ensures, c.exc_code_of.ensures, w.0, w.1)
+    rw (w.0, w.1) (search rules)

@@ -1,5 +1,5 @@
 -- Of what the number names.
-use Rattle.std.proofs.Common.{sym, ◌∙◌}
+use Rattle.std.proofs.Common.{sym, ◌∙◌, rules}
 use Rattle.bits.proofs.FieldLaws.{bit_undone}
 use Rattle.rimjhodek.proofs.Naming.{exception_named}
 use Rattle.rimjhodek.proofs.exceptions.rimjhodek_writes_bad_vaddr.Goals as goal
@@ -7,4 +7,4 @@ use Rattle.rimjhodek.proofs.exceptions.rimjhodek_writes_bad_vaddr.Goals as goal
 pub returns-in-Some : goal.returns-in-Some
 returns-in-Some c =
     let w = exception_named c.args.exc _ (sym c.exception_of.ensures ∙ c.in-Some.is) in
-    rw (c.writes_bad_vaddr.ensures, w.0, w.1, bit_undone)
+    rw (w.0, w.1, bit_undone) (search rules)
